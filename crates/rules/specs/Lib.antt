@@ -1,0 +1,9 @@
+pub mod Lists
+pub mod Field
+pub mod Laws
+pub mod Code
+pub mod Setting
+pub mod Curve
+pub mod Search
+pub mod Refusal
+pub mod Outcome
