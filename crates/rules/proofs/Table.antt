@@ -5,7 +5,7 @@ use mathlib.Core.List.{List, [], _∷_, flatMap, zipWith}
 use Prim.Native.Nat.{ℕ, _-_, _*_}
 use lib.ListN.{replicate, set}
 use Rattle.rules.specs.Lists.{from, below, all, keep, pick, sum, distinct}
-use Rattle.rules.specs.Field.{ops, plus, minus, times, image, alike, prime, inverse}
+use Rattle.rules.specs.Field.{ops, plus, minus, times, image, alike, prime, modulus, inverse}
 use Rattle.rules.specs.Code.{triples, zeros, eval, encode, meets, score, messages, sifted, scoring, readings}
 use Rattle.rules.specs.Setting.{Setting, code-ranges, ranges, W, ℓ, C, U, R, curve-length}
 use Rattle.rules.specs.Curve.{binomial, power, total, coefficient, weighted, hasse, through, passes}
@@ -90,5 +90,5 @@ pub record Table : Type 0 where
   pub zero-fails : check-call (seven 7 1 3) points word zero-curve ≡ answers false
 
 pub table : Table
-unfolding from below all keep pick sum distinct plus minus times image alike prime inverse flatMap zipWith triples eval encode meets score messages sifted scoring readings code-ranges ranges W ℓ C U R curve-length binomial power total coefficient weighted hasse through passes rows merge width rest first zeros firsts strip stripped scale step follows alive beginnings product along roots listed lowest long under field-refusal encode-refusal setting-causes setting-refusal word-causes curve-causes fits check-refusal read-refusal answer inverse-call setting-call encode-call over check-call tried-of list-of
+unfolding from below all keep pick sum distinct plus minus times image alike prime modulus inverse flatMap zipWith triples eval encode meets score messages sifted scoring readings code-ranges ranges W ℓ C U R curve-length binomial power total coefficient weighted hasse through passes rows merge width rest first zeros firsts strip stripped scale step follows alive beginnings product along roots listed lowest long under field-refusal encode-refusal setting-causes setting-refusal word-causes curve-causes fits check-refusal read-refusal answer inverse-call setting-call encode-call over check-call tried-of list-of
 table = search refl
