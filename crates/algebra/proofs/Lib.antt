@@ -1,0 +1,4 @@
+pub mod Ring
+pub mod Seq
+pub mod Taylor
+pub mod Roots
