@@ -3,3 +3,5 @@ pub mod Seq
 pub mod Taylor
 pub mod Roots
 pub mod Along
+pub mod Lists
+pub mod Bridge
