@@ -2,3 +2,5 @@ pub mod Ring
 pub mod Seq
 pub mod Taylor
 pub mod Roots
+pub mod Total
+pub mod Weight
