@@ -5,3 +5,5 @@ pub mod Roots
 pub mod Along
 pub mod Lists
 pub mod Bridge
+pub mod Total
+pub mod Weight

@@ -1,3 +1,4 @@
 pub mod Poly
 pub mod Points
 pub mod Hom
+pub mod Conditions
