@@ -7,3 +7,4 @@ pub mod Lists
 pub mod Bridge
 pub mod Total
 pub mod Weight
+pub mod Hasse
