@@ -8,3 +8,6 @@ pub mod Bridge
 pub mod Total
 pub mod Weight
 pub mod Hasse
+pub mod Rank
+pub mod Conditions
+pub mod Basis

@@ -2,3 +2,4 @@ pub mod Poly
 pub mod Points
 pub mod Hom
 pub mod Conditions
+pub mod Space
