@@ -8,3 +8,5 @@ pub mod Bridge
 pub mod Total
 pub mod Weight
 pub mod Hasse
+pub mod Complete
+pub mod Agreement
