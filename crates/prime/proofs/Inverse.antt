@@ -7,8 +7,9 @@ use native.Mathlib.Omega.{arith}
 use lib.Dec.{T, eqb→eq, eqb-refl}
 use Rattle.rules.specs.Lists.{below}
 use Rattle.rules.specs.Field.{ops, times, alike, inverse}
+use Rattle.rules.proofs.Tests.{pick-mem, pick-none, from-mem, mem-from}
 use Rattle.prime.proofs.Mod.{mul-mod-left, mul-mod-right}
-use Rattle.prime.proofs.Tests.{Prime, pick-mem, pick-none, from-mem, mem-from}
+use Rattle.prime.proofs.Tests.{Prime}
 
 -- p = a·q + r, and b takes r to 1: then q·(p−1)·b takes a to 1
 module _ (p a q r c b : ℕ) (e : a * q + r ≡ p) (f : c + 1 ≡ p) where

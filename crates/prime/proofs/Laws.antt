@@ -10,9 +10,10 @@ use lib.Dec.{T, not-T, eqb→eq, eqb-refl}
 use Rattle.rules.specs.Lists.{from, below, all, distinct}
 use Rattle.rules.specs.Field.{Ops, ops, plus, minus, times, image, alike, modulus, inverse}
 use Rattle.rules.specs.Laws.{Laws}
+use Rattle.rules.proofs.Tests.{and, pick-mem, from-mem}
 use Rattle.prime.specs.Field.{value, elt, field}
 use Rattle.prime.proofs.Mod.{mul-mod-left, mul-mod-right}
-use Rattle.prime.proofs.Tests.{and, pick-mem, from-mem, modulus-says}
+use Rattle.prime.proofs.Tests.{modulus-says}
 use Rattle.prime.proofs.Inverse.{inverse-is}
 
 map-mem : {A B : Type 0} (φ : A → B) {x : A} {xs : List A} → List·Memᴰ x xs → List·Memᴰ (φ x) (map φ xs)
