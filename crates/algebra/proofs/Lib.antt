@@ -11,3 +11,5 @@ pub mod Hasse
 pub mod Rank
 pub mod Conditions
 pub mod Basis
+pub mod Complete
+pub mod Agreement
