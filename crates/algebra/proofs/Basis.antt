@@ -107,7 +107,7 @@ module _ (O : Ops) (L : Laws O) (S : Space) where
       fit = λ j l. rw (e j l) (B .fit j l);
       monic = λ j a. let q = e j (a .column) in rw q (monic-same (h j (rw q at a)) (B .monic j (rw q at a)));
       meets = λ j a. let a′ = rw (e j (a .column)) at a in meets-same (h j a′) (B .meets j a′);
-      size = omega (arith, B .size, sum-same d d′ 0 (suc (S .top)) (λ j l m. e j (omega arith)));
+      size = omega (arith, B .size, sum-same d d′ 0 (S .top + 1) (λ j l m. e j (omega arith)));
     }
 
   -- the powers of y, before any condition
@@ -119,7 +119,7 @@ module _ (O : Ops) (L : Laws O) (S : Space) where
     fit = λ j l. omega (arith, f j l);
     monic = λ j w. record { within = w; lead = u j w; rest = λ i t h l. z j i t w h (λ e. let q = ap₂ (rank S) (e .0) (e .1) in omega arith) };
     meets = λ j w. record { each = λ c m. absurd (List·Memᴰ·not-nil m) };
-    size = omega (arith, sum-nil 0 (suc (S .top)));
+    size = omega (arith, sum-nil 0 (S .top + 1));
   }
 
   module _ {cs : List (Condition Symbol)} {d : ℕ → ℕ} {g : ℕ → Curve O} (B : Basis O S cs d g) where
@@ -134,9 +134,9 @@ module _ (O : Ops) (L : Laws O) (S : Space) where
     }
 
     -- with fewer conditions than terms a curve is alive
-    pub end : length cs < sum (λ t. S .wide - S .off t) (below (suc (S .top))) → (j : ℕ) × In S (d j) j
+    pub end : length cs < sum (λ t. S .wide - S .off t) (below (S .top + 1)) → (j : ℕ) × In S (d j) j
     unfolding below
-    end l = let e = sum-less d (λ t. S .wide - S .off t) 0 (suc (S .top)) (omega (arith, B .size)) in (e .0, record { column = omega (arith, e .1); inside = omega (arith, e .2) })
+    end l = let e = sum-less d (λ t. S .wide - S .off t) 0 (S .top + 1) (omega (arith, B .size)) in (e .0, record { column = omega (arith, e .1); inside = omega (arith, e .2) })
 
     module _ {c : Condition Symbol} {p : ℕ} {d′ : ℕ → ℕ} {g′ : ℕ → Curve O} (r : Ready O S cs c) (P : Pivot O S c p d g d′ g′) where
       M : Monic O S (g p) (d p) p
@@ -176,7 +176,7 @@ module _ (O : Ops) (L : Laws O) (S : Space) where
         fit = λ j h. fits j h (ℕ-discrete j p);
         monic = λ j a. monic′ j a (ℕ-discrete j p);
         meets = λ j a. meets′ j a (ℕ-discrete j p);
-        size = omega (arith, B .size, length-append cs (c ∷ []), sum-grow d d′ p 0 (suc (S .top)) (omega arith) (omega (arith, P .alive .column)) (P .grow) (λ j l. P .stay j (omega arith)));
+        size = omega (arith, B .size, length-append cs (c ∷ []), sum-grow d d′ p 0 (S .top + 1) (omega arith) (omega (arith, P .alive .column)) (P .grow) (λ j l. P .stay j (omega arith)));
       }
         where
           back : (j : ℕ) → ¬ (j ≡ p) → In S (d′ j) j → In S (d j) j

@@ -1,7 +1,7 @@
 -- The value of a condition is linear, sees only the terms of the space, and vanishes at (x − point)·Q where the condition before it does at Q.
 use mathlib.Core.Path.{_≡_, refl, sym, _∙_, ap, ap₂}
 use mathlib.Core.List.{List}
-use Prim.Native.Nat.{ℕ, zero, suc, _-_, _<_}
+use Prim.Native.Nat.{ℕ, zero, suc, _+_, _-_, _<_}
 use native.Mathlib.Omega.{arith}
 use Rattle.rules.specs.Field.{Ops}
 use Rattle.rules.specs.Laws.{Laws}
@@ -34,7 +34,7 @@ module _ (O : Ops) (L : Laws O) where
   module _ (S : Space) where
     -- the sum of u i·v t·Q i t over the space
     unfoldable form : (ℕ → Symbol) → (ℕ → Symbol) → Curve O → Symbol
-    form u v Q = total O (suc (S .top)) (λ t. mul (v t) (total O (S .wide - S .off t) (λ i. mul (u i) (Q i t))))
+    form u v Q = total O (S .top + 1) (λ t. mul (v t) (total O (S .wide - S .off t) (λ i. mul (u i) (Q i t))))
 
     form-ext : (u v : ℕ → Symbol) (P Q : Curve O) → Same O S P Q → form u v P ≡ form u v Q
     unfolding form
@@ -52,7 +52,7 @@ module _ (O : Ops) (L : Laws O) where
         swap : (n : ℕ) (p q : ℕ → Symbol) → total O n (λ i. mul (p i) (q i)) ≡ total O n (λ i. mul (q i) (p i))
         swap n p q = total-ext O L n _ _ (λ i l. L .mul-comm _ _)
 
-        inner : (t : ℕ) → t < suc (S .top) →
+        inner : (t : ℕ) → t < S .top + 1 →
             total O (S .wide - S .off t) (λ i. mul (u i) (shift O Q i t))
             ≡ add (total O (S .wide - S .off t) (λ i. mul (u′ i) (Q i t))) (mul α (total O (S .wide - S .off t) (λ i. mul (u i) (Q i t))))
         inner t ht =

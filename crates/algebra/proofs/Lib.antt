@@ -13,3 +13,4 @@ pub mod Conditions
 pub mod Basis
 pub mod Complete
 pub mod Agreement
+pub mod Plan

@@ -58,7 +58,7 @@ module _ (O : Ops) where
 
     -- the condition's Hasse derivative of a curve, over the terms of the space
     unfoldable pub value : Condition Symbol → Curve → Symbol
-    value c Q = total O (suc (S .top)) (λ t.
+    value c Q = total O (S .top + 1) (λ t.
         mul (weight O (c .symbol) (c .b) t) (total O (S .wide - S .off t) (λ i. mul (weight O (c .point) (c .a) i) (Q i t))))
 
     pub record Meets (cs : List (Condition Symbol)) (Q : Curve) : Type 0 where
@@ -90,7 +90,7 @@ module _ (O : Ops) where
       pub fit : (j : ℕ) → j ≤ S .top → d j + S .off j ≤ S .wide
       pub monic : (j : ℕ) → In S (d j) j → Monic (g j) (d j) j
       pub meets : (j : ℕ) → In S (d j) j → Meets cs (g j)
-      pub size : sum d (below (suc (S .top))) ≤ length cs
+      pub size : sum d (below (S .top + 1)) ≤ length cs
 
     -- every curve that meets the conditions has its greatest term at or above the leading term of its column
     abbrev pub Least : List (Condition Symbol) → (ℕ → ℕ) → Type 0
