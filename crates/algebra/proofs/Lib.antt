@@ -14,3 +14,4 @@ pub mod Basis
 pub mod Complete
 pub mod Agreement
 pub mod Plan
+pub mod Passes

@@ -1,6 +1,7 @@
 -- The conditions of triples, one after the other: each is ready after those before it, and there are as many as document 01 counts.
-use mathlib.Core.Path.{_≡_, refl, sym, _∙_, ap, ap₂, fun-ext}
-use mathlib.Core.List.{List, [], _∷_, _++_, map, flatMap, zipWith, append-nil, append-assoc, List·Memᴰ, List·Memᴰ·head, List·Memᴰ·tail, Memᴰ·append-right}
+use mathlib.Core.Path.{_≡_, refl, sym, _∙_, ap, subst, fun-ext}
+use mathlib.Core.Logic.{⊎-elim}
+use mathlib.Core.List.{List, [], _∷_, _++_, map, flatMap, zipWith, append-nil, append-assoc, List·Memᴰ, List·Memᴰ·head, List·Memᴰ·tail, Memᴰ·append-right, Memᴰ·append-left, List·Memᴰ·append-cases, List·Memᴰ·not-nil}
 use Prim.Native.Nat.{ℕ, zero, suc, _<_, _+_, _*_, _-_, _/_}
 use native.Mathlib.Omega.{arith}
 use native.Mathlib.Nat.{suc-mul, mul-suc, mul-assoc, div-eq-of-eq-mul-left}
@@ -9,7 +10,7 @@ use lib.Seq.{take-suc}
 use Rattle.rules.specs.Lists.{from, below, sum}
 use Rattle.rules.specs.Field.{Ops}
 use Rattle.rules.specs.Code.{Triple, triples}
-use Rattle.rules.proofs.Tests.{from-mem}
+use Rattle.rules.proofs.Tests.{from-mem, mem-from}
 use Rattle.algebra.specs.Conditions.{Condition, condition, conditions-along, conditions-at, conditions}
 use Rattle.algebra.specs.Space.{Space, Ready}
 use Rattle.algebra.proofs.Lists.{map-append}
@@ -93,12 +94,46 @@ module _ {A : Type 0} where
       whole : half * 2 ≡ s * (s + 1)
       whole = let e = triangle s 0 s (omega arith) in ap (λ m. m * 2) (div-eq-of-eq-mul-left (omega arith) (sym e)) ∙ e
 
+map-mem : {A B : Type 0} (f : A → B) {x : A} {xs : List A} → List·Memᴰ x xs → List·Memᴰ (f x) (map f xs)
+map-mem f (List·Memᴰ·head e) = List·Memᴰ·head (ap f e)
+map-mem f (List·Memᴰ·tail m) = List·Memᴰ·tail (map-mem f m)
+
+mem-map : {A B : Type 0} (f : A → B) (xs : List A) {y : B} → List·Memᴰ y (map f xs) → (x : A) × List·Memᴰ x xs × (y ≡ f x)
+mem-map f (x ∷ xs) (List·Memᴰ·head e) = (x, List·Memᴰ·head refl, e)
+mem-map f (x ∷ xs) (List·Memᴰ·tail m) = let r = mem-map f xs m in (r .0, List·Memᴰ·tail (r .1), r .2)
+
+flat-mem : {A B : Type 0} (f : A → List B) {x : A} {xs : List A} {y : B} → List·Memᴰ x xs → List·Memᴰ y (f x) → List·Memᴰ y (flatMap f xs)
+unfolding flatMap
+flat-mem f {y = y} (List·Memᴰ·head {xs = xs} e) m = Memᴰ·append-left (flatMap f xs) (subst (λ x. List·Memᴰ y (f x)) e m)
+flat-mem f (List·Memᴰ·tail {x = x} k) m = Memᴰ·append-right (f x) (flat-mem f k m)
+
+mem-flat : {A B : Type 0} (f : A → List B) (xs : List A) {y : B} → List·Memᴰ y (flatMap f xs) → (x : A) × List·Memᴰ x xs × List·Memᴰ y (f x)
+unfolding flatMap
+mem-flat f [] m = absurd (List·Memᴰ·not-nil m)
+mem-flat f (x ∷ xs) m =
+    ⊎-elim (λ k. (x, List·Memᴰ·head refl, k)) (λ k. let r = mem-flat f xs k in (r .0, List·Memᴰ·tail (r .1), r .2)) (List·Memᴰ·append-cases (f x) m)
+
+-- the conditions of triples are those with a + b below the multiplicity
+module _ {A : Type 0} (zs : List (Triple A)) where
+  pub condition-mem : {z : Triple A} → List·Memᴰ z zs → (a b : ℕ) → a + b < z .times → List·Memᴰ (condition z b a) (conditions zs)
+  unfolding conditions conditions-at conditions-along below
+  condition-mem {z} m a b l =
+      flat-mem conditions-at m (flat-mem (conditions-along z) (from-mem b 0 (z .times) (omega arith) (omega arith)) (map-mem (condition z b) (from-mem a 0 (z .times - b) (omega arith) (omega arith))))
+
+  pub mem-condition : {c : Condition A} → List·Memᴰ c (conditions zs) →
+      (z : Triple A) × List·Memᴰ z zs × (a : ℕ) × (b : ℕ) × (a + b < z .times) × (c ≡ condition z b a)
+  unfolding conditions conditions-at conditions-along below
+  mem-condition m =
+      let r = mem-flat conditions-at zs m in
+      let z = r .0 in
+      let s = mem-flat (conditions-along z) (below (z .times)) (r .2) in
+      let t = mem-map (condition z (s .0)) (below (z .times - s .0)) (s .2) in
+      let u = mem-from (s .0) 0 (z .times) (s .1) in
+      let v = mem-from (t .0) 0 (z .times - s .0) (t .1) in
+      (z, r .1, t .0, s .0, omega arith, t .2)
+
 module _ (O : Ops) (S : Space) where
   -- (a − 1, b) comes right before (a, b)
   pub ready : (cs : List (Condition (O .Symbol))) (z : Triple (O .Symbol)) (b a : ℕ) → Ready O S (cs ++ map (condition z b) (below a)) (condition z b a)
   unfolding condition below
-  ready cs z b a a′ e = Memᴰ·append-right cs (map-mem (from-mem a′ 0 a (omega arith) (omega arith)))
-    where
-      map-mem : {i : ℕ} {xs : List ℕ} → List·Memᴰ i xs → List·Memᴰ (condition z b i) (map (condition z b) xs)
-      map-mem (List·Memᴰ·head q) = List·Memᴰ·head (ap (condition z b) q)
-      map-mem (List·Memᴰ·tail m) = List·Memᴰ·tail (map-mem m)
+  ready cs z b a a′ e = Memᴰ·append-right cs (map-mem (condition z b) (from-mem a′ 0 a (omega arith) (omega arith)))

@@ -1,13 +1,16 @@
 -- Curves of bounded weighted degree, the order of their terms, and Kötter's algorithm: what holds of its curves after some conditions, and its step.
 use mathlib.Core.Path.{_≡_}
+use mathlib.Core.Bool.{not}
 use mathlib.Core.List.{List, List·Memᴰ}
 use Prim.Native.Nat.{ℕ, zero, suc, _<_, _≤_, _+_, _*_, _-_}
+use lib.Dec.{T}
 use lib.ListN.{length}
 use Rattle.rules.specs.Lists.{below, sum}
 use Rattle.rules.specs.Field.{Ops}
-use Rattle.rules.specs.Curve.{total}
+use Rattle.rules.specs.Code.{Triple, zeros}
+use Rattle.rules.specs.Curve.{total, coefficient, weighted}
 use Rattle.algebra.specs.Poly.{neg}
-use Rattle.algebra.specs.Conditions.{Condition, weight}
+use Rattle.algebra.specs.Conditions.{Condition, conditions, weight}
 
 -- The terms x^i·y^t with t ≤ top and i + off t < wide.
 pub record Space : Type 0 where
@@ -119,3 +122,9 @@ module _ (O : Ops) where
       pub meets : Meets cs P
       pub least : (Q : Curve) (i t : ℕ) → Meets cs Q → Top Q i t → rank S a j ≤ rank S i t
       pub only : (Q : Curve) → Meets cs Q → Monic Q a j → Same Q P
+
+  -- what passing says: the curve is not zero, its terms are those of the space, and it meets the conditions of the triples
+  pub record Passing (k W ℓ : ℕ) (zs : List (Triple Symbol)) (Q : List Symbol) : Type 0 where
+    pub some : T (not (zeros O Q))
+    pub within : T (weighted O k W ℓ Q)
+    pub meets : Meets (space k W ℓ) (conditions zs) (coefficient O W Q)
