@@ -1,7 +1,7 @@
 -- Kötter's algorithm keeps a basis: at its start, at a condition that all curves meet, and at its step. With fewer conditions than terms a curve is left.
 use mathlib.Core.Path.{_≡_, refl, sym, _∙_, ap, ap₂, subst}
 use mathlib.Core.Logic.{⊎-elim}
-use mathlib.Core.List.{List, [], _∷_, _++_, List·Memᴰ, List·Memᴰ·not-nil, Memᴰ·append-left, List·Memᴰ·append-cases, List·Memᴰ·eq-of-singleton}
+use mathlib.Core.List.{List, [], _∷_, _++_, List·Memᴰ·not-nil, Memᴰ·append-left, List·Memᴰ·append-cases, List·Memᴰ·eq-of-singleton}
 use Prim.Native.Nat.{ℕ, zero, suc, _<_, _≤_, _+_, _-_}
 use native.Mathlib.Omega.{arith}
 use native.Mathlib.Decide.{decLt, ℕ-discrete}
@@ -10,7 +10,7 @@ use Rattle.rules.specs.Lists.{from, below, sum}
 use Rattle.rules.specs.Field.{Ops}
 use Rattle.rules.specs.Laws.{Laws}
 use Rattle.algebra.specs.Conditions.{Condition}
-use Rattle.algebra.specs.Space.{Space, In, rank, Curve, mix, shift, Same, Below, Room, value, Meets, Ready, Monic, Basis, Pivot}
+use Rattle.algebra.specs.Space.{Space, In, rank, Curve, mix, shift, Same, Below, Room, value, Meets, Ready, Ordered, Monic, Basis, Pivot}
 use Rattle.algebra.proofs.Ring.{nil-add, mul-nil, nil-mul, no-zero-divisor, decide}
 use Rattle.algebra.proofs.Rank.{rank-suc, rank-lt, rank-eq}
 use Rattle.algebra.proofs.Conditions.{value-ext, value-lin, value-gain}
@@ -86,15 +86,14 @@ module _ (O : Ops) (L : Laws O) (S : Space) where
     meets-same e s = record { each = λ k m. value-ext O L S k _ _ e ∙ s .each k m }
 
     -- conditions in order that Q meets x·Q meets too
-    pub meets-shift : {Q : Curve O} → ((c : Condition Symbol) → List·Memᴰ c cs → Ready O S cs c) → Room O S Q → Meets O S cs Q → Meets O S cs (shift O Q)
+    pub meets-shift : {Q : Curve O} → Ordered O S cs → Room O S Q → Meets O S cs Q → Meets O S cs (shift O Q)
     meets-shift {Q} o h s = record {
       each = λ k m.
           sym (L .add-nil _) ∙ ap (add _) (sym (ap (mul _) (s .each k m) ∙ mul-nil O L _))
           ∙ sym (value-lin O L S k (shift O Q) _ Q) ∙ value-gain O L S cs k Q (o k m) h s;
     }
 
-    order-snoc : (c : Condition Symbol) → ((k : Condition Symbol) → List·Memᴰ k cs → Ready O S cs k) → Ready O S cs c →
-        (k : Condition Symbol) → List·Memᴰ k (cs ++ (c ∷ [])) → Ready O S (cs ++ (c ∷ [])) k
+    pub order-snoc : (c : Condition Symbol) → Ordered O S cs → Ready O S cs c → Ordered O S (cs ++ (c ∷ []))
     order-snoc c o r k m a e =
         Memᴰ·append-left (c ∷ []) (⊎-elim (λ n. o k n a e) (λ n. subst (Ready O S cs) (sym (List·Memᴰ·eq-of-singleton n)) r a e) (List·Memᴰ·append-cases cs m))
 

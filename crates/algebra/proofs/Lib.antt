@@ -15,3 +15,4 @@ pub mod Complete
 pub mod Agreement
 pub mod Plan
 pub mod Passes
+pub mod Least

@@ -71,6 +71,9 @@ module _ (O : Ops) where
     abbrev pub Ready : List (Condition Symbol) → Condition Symbol → Type 0
     Ready cs c = (a : ℕ) → c .a ≡ suc a → List·Memᴰ (record { point = c .point; symbol = c .symbol; a = a; b = c .b }) cs
 
+    abbrev pub Ordered : List (Condition Symbol) → Type 0
+    Ordered cs = (c : Condition Symbol) → List·Memᴰ c cs → Ready cs c
+
     -- (x − point)·Q
     abbrev pub raised : Condition Symbol → Curve → Curve
     raised c Q = mix (shift Q) (neg O (c .point)) Q
@@ -89,7 +92,7 @@ module _ (O : Ops) where
 
     -- The curves g after the conditions cs. Curve j is alive where its leading term x^(d j)·y^j is in the space.
     pub record Basis (cs : List (Condition Symbol)) (d : ℕ → ℕ) (g : ℕ → Curve) : Type 0 where
-      pub order : (c : Condition Symbol) → List·Memᴰ c cs → Ready cs c
+      pub order : Ordered cs
       pub fit : (j : ℕ) → j ≤ S .top → d j + S .off j ≤ S .wide
       pub monic : (j : ℕ) → In S (d j) j → Monic (g j) (d j) j
       pub meets : (j : ℕ) → In S (d j) j → Meets cs (g j)
