@@ -16,3 +16,4 @@ pub mod Agreement
 pub mod Plan
 pub mod Passes
 pub mod Least
+pub mod Solve
