@@ -52,7 +52,7 @@ module _ (O : Ops) (L : Laws O) (S : Space) where
   pub both : (q a b : Symbol) → a ≡ nil → b ≡ nil → add a (mul q b) ≡ nil
   both q a b ea eb = ap₂ (λ x y. add x (mul q y)) ea eb ∙ simp (mul-nil O L, L .add-nil)
 
-  monic-same : {P Q : Curve O} {a j : ℕ} → Same O S P Q → Monic O S Q a j → Monic O S P a j
+  pub monic-same : {P Q : Curve O} {a j : ℕ} → Same O S P Q → Monic O S Q a j → Monic O S P a j
   monic-same e M = record { within = M .within; lead = e _ _ (M .within) ∙ M .lead; rest = λ i t h l. e i t h ∙ M .rest i t h l }
 
   pub monic-shift : {Q : Curve O} {a j : ℕ} → In S (suc a) j → Monic O S Q a j → Monic O S (shift O Q) (suc a) j

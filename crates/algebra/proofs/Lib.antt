@@ -17,3 +17,4 @@ pub mod Plan
 pub mod Passes
 pub mod Least
 pub mod Solve
+pub mod Exists

@@ -54,7 +54,7 @@ module _ {A : Type 0} where
   length-flat f [] = refl
   length-flat f (x ∷ xs) = length-append (f x) (flatMap f xs) ∙ ap (_+_ (length (f x))) (length-flat f xs)
 
-length-from : (a n : ℕ) → length (from a n) ≡ n
+pub length-from : (a n : ℕ) → length (from a n) ≡ n
 unfolding from
 length-from a zero = refl
 length-from a (suc n) = ap suc (length-from (suc a) n)
