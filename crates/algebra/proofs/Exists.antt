@@ -5,21 +5,20 @@ use mathlib.Core.List.{List, map}
 use Prim.Native.Nat.{ℕ, zero, suc, _<_, _≤_, _+_, _*_, _-_, _/_, _%_}
 use native.Mathlib.Omega.{arith}
 use native.Mathlib.Nat.{mul-le-mul-right, div-mul-le-self, mul-add-div-right, div-eq-of-lt, mul-add-mod-self-right, mod-eq-of-lt}
-use lib.Dec.{T, T-not, ltb, lt→ltb, ltb→lt}
+use lib.Dec.{T-not, ltb, lt→ltb, ltb→lt}
 use lib.ListN.{length, getD, length-map}
 use Rattle.rules.specs.Lists.{from, below, sum}
 use Rattle.rules.specs.Field.{Ops}
 use Rattle.rules.specs.Laws.{Laws}
 use Rattle.rules.specs.Code.{Triple, triples}
-use Rattle.rules.specs.Setting.{Setting, W, ℓ, C, U, curve-length}
-use Rattle.rules.specs.Curve.{coefficient, passes}
+use Rattle.rules.specs.Setting.{Setting, W, ℓ, C, U}
+use Rattle.rules.specs.Curve.{coefficient}
 use Rattle.rules.proofs.Tests.{either}
 use Rattle.algebra.specs.Conditions.{conditions}
-use Rattle.algebra.specs.Space.{space, Curve, Same, Answer}
+use Rattle.algebra.specs.Space.{space, Curve, Same, Chosen}
 use Rattle.algebra.proofs.Rank.{digit-lt}
 use Rattle.algebra.proofs.Plan.{length-from, count-triples}
-use Rattle.algebra.proofs.Basis.{monic-same, meets-same}
-use Rattle.algebra.proofs.Passes.{passes-found}
+use Rattle.algebra.proofs.Flat.{chosen}
 use Rattle.algebra.proofs.Solve.{solve}
 
 getD-below : {A : Type 0} (f : ℕ → A) (d : A) (n i : ℕ) → i < n → getD (map f (below n)) i d ≡ f i
@@ -64,23 +63,18 @@ module _ (O : Ops) (L : Laws O) where
     flat-same : (P : Curve O) → Same O (space k W ℓ) (coefficient O W (flat P)) P
     flat-same P i t h = coefficient-flat P i t (omega (arith, h .column)) (omega (arith, h .inside)) ∙ inside P i t (h .inside)
 
-    -- Fewer conditions than terms have a curve that passes.
+    -- Fewer conditions than terms have a curve that passes, and so a chosen one.
     pub exists : (zs : List (Triple Symbol)) → ((t : ℕ) → t ≤ ℓ → t * (k - 1) ≤ W) → length (conditions zs) < sum (λ t. W - t * (k - 1)) (below (ℓ + 1)) →
-        (Q : List Symbol) × (length Q ≡ (ℓ + 1) * W) × T (passes O k W ℓ zs Q)
-    exists zs f l = go (solve O L (space k W ℓ) zs f l)
-      where
-        go : (P : Curve O) × (a : ℕ) × (j : ℕ) × Answer O (space k W ℓ) (conditions zs) P a j → (Q : List Symbol) × (length Q ≡ (ℓ + 1) * W) × T (passes O k W ℓ zs Q)
-        go (P, a, j, A) = (
-          flat P,
-          length-flat P,
-          passes-found O L k W ℓ zs (flat P) (λ t i u l g. coefficient-flat P i t u l ∙ outside P i t g)
-              (monic-same O L (space k W ℓ) (flat-same P) (A .monic)) (meets-same O L (space k W ℓ) (flat-same P) (A .meets)),
-        )
+        (Q : List Symbol) × Chosen O k W ℓ zs Q
+    exists zs f l =
+        let s = solve O L (space k W ℓ) zs f l in
+        let P = s .0 in
+        (flat P, chosen O L k W ℓ zs (flat P) (s .3) (length-flat P) (flat-same P) (λ t i u l g. coefficient-flat P i t u l ∙ outside P i t g))
 
   -- "An accepted setting never fails for want of a curve": this needs no more of it than U > C.
   pub setting-exists : (S : Setting) (points word : List Symbol) → C S < U S → length points ≡ S .n → length word ≡ S .n →
-      (Q : List Symbol) × (length Q ≡ curve-length S) × T (passes O (S .k) (W S) (ℓ S) (triples (S .s) points word) Q)
-  unfolding curve-length C U
+      (Q : List Symbol) × Chosen O (S .k) (W S) (ℓ S) (triples (S .s) points word) Q
+  unfolding C U
   setting-exists S points word h p w =
       exists (S .k) (W S) (ℓ S) (triples (S .s) points word) fit (omega (arith, count-triples (S .s) (S .n) points word p w))
     where

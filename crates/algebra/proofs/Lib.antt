@@ -18,3 +18,4 @@ pub mod Passes
 pub mod Least
 pub mod Solve
 pub mod Exists
+pub mod Flat

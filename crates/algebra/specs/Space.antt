@@ -8,7 +8,7 @@ use lib.ListN.{length}
 use Rattle.rules.specs.Lists.{below, sum}
 use Rattle.rules.specs.Field.{Ops}
 use Rattle.rules.specs.Code.{Triple, zeros}
-use Rattle.rules.specs.Curve.{total, coefficient, weighted}
+use Rattle.rules.specs.Curve.{total, coefficient, weighted, passes}
 use Rattle.algebra.specs.Poly.{neg}
 use Rattle.algebra.specs.Conditions.{Condition, conditions, weight}
 
@@ -131,3 +131,13 @@ module _ (O : Ops) where
     pub some : T (not (zeros O Q))
     pub within : T (weighted O k W ℓ Q)
     pub meets : Meets (space k W ℓ) (conditions zs) (coefficient O W Q)
+
+  -- of the curves that pass, Q has the least greatest term, the coefficient one there, and is the only such curve
+  pub record Chosen (k W ℓ : ℕ) (zs : List (Triple Symbol)) (Q : List Symbol) : Type 0 where
+    pub long : length Q ≡ (ℓ + 1) * W
+    pub passing : T (passes O k W ℓ zs Q)
+    pub i : ℕ
+    pub t : ℕ
+    pub monic : Monic (space k W ℓ) (coefficient O W Q) i t
+    pub least : (P : List Symbol) (a j : ℕ) → T (passes O k W ℓ zs P) → Top (space k W ℓ) (coefficient O W P) a j → rank (space k W ℓ) i t ≤ rank (space k W ℓ) a j
+    pub only : (P : List Symbol) → length P ≡ (ℓ + 1) * W → T (passes O k W ℓ zs P) → Monic (space k W ℓ) (coefficient O W P) i t → P ≡ Q
