@@ -2,3 +2,4 @@ pub mod Ring
 pub mod Seq
 pub mod Taylor
 pub mod Roots
+pub mod Rows
