@@ -3,3 +3,4 @@ pub mod Seq
 pub mod Taylor
 pub mod Roots
 pub mod Rows
+pub mod Step

@@ -1,0 +1,151 @@
+-- One step of the root search: Q(x, x·y + g) as an operator on rows, its coefficients, and the roots that it keeps.
+use mathlib.Core.Path.{_≡_, refl, sym, _∙_, ap, ap₂, fun-ext}
+use mathlib.Core.List.{List, [], _∷_, map}
+use mathlib.Core.Logic.{_↔_}
+use Prim.Native.Nat.{ℕ, zero, suc, _<_, _≤_, _+_, _-_, _*_}
+use native.Mathlib.Nat.{add-zero, add-suc, mul-suc, mul-le-mul-right}
+use native.Mathlib.Omega.{arith}
+use native.Mathlib.Decide.{decLt}
+use Rattle.rules.specs.Field.{Ops}
+use Rattle.rules.specs.Laws.{Laws}
+use Rattle.rules.specs.Code.{eval}
+use Rattle.rules.specs.Search.{merge, scale, firsts, step, along}
+use Rattle.algebra.specs.Poly.{Seq, Short, Zero, coef, taylor, plus, stretch, shift, lone, near, act, horner, expand, entry}
+use Rattle.algebra.specs.Search.{cell, Within}
+use Rattle.algebra.proofs.Ring.{mul-nil, nil-add}
+use Rattle.algebra.proofs.Seq.{act-cons, act-linear, act-commutes, shift-linear, horner-map, horner-expand, expand-nil, expand-zero, expand-suc, plus-at, stretch-at, none-at, none-plus, shift-zero, shift-suc, shift-none, lone-nil, lone-zero, lone-suc, near-zero, near-suc}
+use Rattle.algebra.proofs.Taylor.{eval-cons, taylor-nil, taylor-cons, taylor-zero, coef-nil, coef-cons, coef-suc, coef-sum, coef-scale, coef-product, zero-path, path-zero}
+use Rattle.algebra.proofs.Rows.{coef-first, cell-entry, cell-column}
+
+module _ (O : Ops) (L : Laws O) where
+  open Ops O using (Symbol, nil, add, mul)
+
+  pub coef-along : (Q : List (List Symbol)) (f : List Symbol) → coef O (along O Q f) ≡ horner O (act O (shift O) f) (map (coef O) Q)
+  unfolding horner along
+  coef-along [] f = coef-nil O L
+  coef-along (q ∷ Q) f = rw (coef-sum, coef-product, coef-along Q f)
+
+  rows-x : (A : List (List Symbol)) → map (coef O) (map (_∷_ nil) A) ≡ map (shift O) (map (coef O) A)
+  rows-x [] = refl
+  rows-x (q ∷ A) = ap₂ _∷_ (rw (coef-cons, lone-nil, none-plus)) (rows-x A)
+
+  -- x·Q has the roots of Q
+  module _ (f : List Symbol) (P Q : List (List Symbol)) (e : map (coef O) P ≡ map (shift O) (map (coef O) Q)) where
+    along-shift : coef O (along O P f) ≡ shift O (coef O (along O Q f))
+    along-shift =
+        coef-along P f ∙ ap (horner O (act O (shift O) f)) e
+        ∙ horner-map O L _ _ (shift-linear O L) (act-commutes O L (shift O) (shift O) (shift-linear O L) (λ t. refl) f) _
+        ∙ ap (shift O) (sym (coef-along Q f))
+
+    pub shift-roots : Zero O (along O P f) ↔ Zero O (along O Q f)
+    shift-roots = (
+      λ z i. sym (shift-suc O L _ i) ∙ ap (λ s. s (suc i)) (sym along-shift) ∙ z (suc i),
+      λ z. path-zero O L _ (rw (along-shift, zero-path O L _ z) (shift-none O L)),
+    )
+
+  rows-merge : (A B : List (List Symbol)) → map (coef O) (merge (merge add) A B) ≡ merge (plus O) (map (coef O) A) (map (coef O) B)
+  unfolding merge
+  rows-merge [] B = refl
+  rows-merge (p ∷ A) [] = refl
+  rows-merge (p ∷ A) (q ∷ B) = ap₂ _∷_ (coef-sum O L p q) (rows-merge A B)
+
+  rows-scale : (g : Symbol) (A : List (List Symbol)) → map (coef O) (map (scale O g) A) ≡ map (stretch O g) (map (coef O) A)
+  rows-scale g [] = refl
+  rows-scale g (q ∷ A) = ap₂ _∷_ (coef-scale O L g q) (rows-scale g A)
+
+  rows-step : (g : Symbol) (Q : List (List Symbol)) → map (coef O) (step O g Q) ≡ expand O (shift O) g (map (coef O) Q)
+  unfolding step expand
+  rows-step g [] = refl
+  rows-step g (q ∷ Q) =
+      rows-merge (q ∷ map (_∷_ nil) (step O g Q)) (map (scale O g) (step O g Q))
+      ∙ ap₂ (λ A B. merge (plus O) (coef O q ∷ A) B)
+      (rows-x (step O g Q) ∙ ap (map (shift O)) (rows-step g Q)) (rows-scale g (step O g Q) ∙ ap (map (stretch O g)) (rows-step g Q))
+
+  -- g ∷ f is a root of Q when f is one of Q(x, x·y + g)
+  pub along-step : (g : Symbol) (f : List Symbol) (Q : List (List Symbol)) → coef O (along O (step O g Q) f) ≡ coef O (along O Q (g ∷ f))
+  along-step g f Q =
+      coef-along (step O g Q) f ∙ ap (horner O (act O (shift O) f)) (rows-step g Q)
+      ∙ horner-expand O L (act O (shift O) (g ∷ f)) (act O (shift O) f) (shift O) g (act-linear O L _ (shift-linear O L) f) (shift-linear O L)
+      (act-commutes O L (shift O) (shift O) (shift-linear O L) (λ t. refl) f) (act-cons O L (shift O) g f) (map (coef O) Q)
+      ∙ sym (coef-along Q (g ∷ f))
+
+  -- the first symbol of a root is a root of Q(0, y)
+  pub along-first : (Q : List (List Symbol)) (g : Symbol) (f : List Symbol) → coef O (along O Q (g ∷ f)) zero ≡ eval O (firsts O Q) g
+  unfolding along firsts
+  along-first [] g f = unfold coef eval in refl
+  along-first (q ∷ Q) g f =
+      rw (coef-sum, coef-product, act-cons, plus-at, plus-at, stretch-at, shift-zero, L .add-nil, along-first Q g f, coef-first, eval-cons)
+
+  -- the step has a factor x^t at y^t
+  expand-low : (g : Symbol) (A : List (Seq O)) (t i : ℕ) → i < t → entry O (expand O (shift O) g A) t i ≡ nil
+  expand-low g [] t i l = rw expand-nil (none-at O L i)
+  expand-low g (s ∷ A) zero i l = absurd (omega arith)
+  expand-low g (s ∷ A) (suc t) zero l =
+      rw (expand-suc O L (shift O) (shift-linear O L), plus-at, stretch-at, shift-zero, expand-low g A (suc t) zero (omega arith), mul-nil) (L .add-nil nil)
+  expand-low g (s ∷ A) (suc t) (suc i) l =
+      rw (expand-suc O L (shift O) (shift-linear O L), plus-at, stretch-at, shift-suc, expand-low g A t i (omega arith), expand-low g A (suc t) (suc i) (omega arith), mul-nil)
+      (L .add-nil nil)
+
+  -- and beside it the Taylor coefficients in y at g, column by column
+  expand-high : (g : Symbol) (A : List (Seq O)) (t i : ℕ) → entry O (expand O (shift O) g A) t (i + t) ≡ taylor O g (map (λ s. s i) A) t
+  expand-high g [] t i = rw (expand-nil, taylor-nil) (none-at O L _ ∙ sym (none-at O L t))
+  expand-high g (s ∷ A) zero i =
+      rw (expand-zero O L (shift O) (shift-linear O L), plus-at, stretch-at, expand-high g A zero i, taylor-cons, plus-at, lone-zero, near-zero, add-zero)
+  expand-high g (s ∷ A) (suc t) i =
+      rw (expand-suc O L (shift O) (shift-linear O L), plus-at, stretch-at, expand-high g A (suc t) i, add-suc i t, shift-suc, expand-high g A t i, taylor-cons, plus-at, lone-suc, near-suc, nil-add)
+      (L .add-comm _ _)
+
+  pub step-low : (g : Symbol) (Q : List (List Symbol)) (t i : ℕ) → i < t → cell O (step O g Q) t i ≡ nil
+  step-low g Q t i l = rw (← cell-entry O L (step O g Q), rows-step) (expand-low g _ t i l)
+
+  step-high : (g : Symbol) (Q : List (List Symbol)) (t i : ℕ) → cell O (step O g Q) t (i + t) ≡ taylor O g (map (λ q. coef O q i) Q) t
+  step-high g Q t i = rw (← cell-entry O L (step O g Q), rows-step, ← column Q) (expand-high g _ t i)
+    where
+      column : (Q : List (List Symbol)) → map (λ s. s i) (map (coef O) Q) ≡ map (λ q. coef O q i) Q
+      column [] = refl
+      column (q ∷ Q) = ap (_∷_ (coef O q i)) (column Q)
+
+  -- the coefficients of the step, from those of Q
+  pub step-cell : (g : Symbol) (Q : List (List Symbol)) (t i : ℕ) → t ≤ i → cell O (step O g Q) t i ≡ taylor O g (map (λ q. coef O q (i - t)) Q) t
+  step-cell g Q t i l = ap (cell O (step O g Q) t) back ∙ step-high g Q t (i - t)
+    where
+      back : i ≡ i - t + t
+      back = omega arith
+
+  -- Taylor coefficients do not see the zeros at the end of a list
+  pub taylor-same : (α : Symbol) (p q : List Symbol) → coef O p ≡ coef O q → taylor O α p ≡ taylor O α q
+  taylor-same α [] q e = taylor-nil O L α ∙ sym (taylor-zero O L α q (path-zero O L q (sym e ∙ coef-nil O L)))
+  taylor-same α (a ∷ p) [] e = taylor-zero O L α (a ∷ p) (path-zero O L _ (e ∙ coef-nil O L)) ∙ sym (taylor-nil O L α)
+  taylor-same α (a ∷ p) (b ∷ q) e =
+      rw (taylor-cons O L α a p, taylor-cons O L α b q, taylor-same α p q (fun-ext λ i. sym (coef-suc O L a p i) ∙ ap (λ s. s (suc i)) e ∙ coef-suc O L b q i))
+      (ap (λ c. plus O (lone O c) (near O α (taylor O α q))) (unfold coef in ap (λ s. s zero) e))
+
+  taylor-short : (α : Symbol) (p : List Symbol) (n : ℕ) → Short O n (coef O p) → Short O n (taylor O α p)
+  unfolding coef
+  taylor-short α [] n h i l = rw taylor-nil (none-at O L i)
+  taylor-short α (a ∷ p) zero h i l = ap (λ s. s i) (taylor-zero O L α (a ∷ p) (λ j. h j (omega arith))) ∙ none-at O L i
+  taylor-short α (a ∷ p) (suc n) h zero l = absurd (omega arith)
+  taylor-short α (a ∷ p) (suc n) h (suc i) l =
+      let k = taylor-short α p n (λ j m. h (suc j) (omega arith)) in
+      rw (taylor-cons, plus-at, lone-suc, near-suc, nil-add, k (suc i) (omega arith), k i (omega arith), mul-nil) (L .add-nil nil)
+
+  -- the step of curves with the same coefficients has the same coefficients
+  pub step-same : (g : Symbol) (P Q : List (List Symbol)) → cell O P ≡ cell O Q → cell O (step O g P) ≡ cell O (step O g Q)
+  step-same g P Q e = fun-ext λ t. fun-ext λ i. go t i (decLt i t)
+    where
+      go : (t i : ℕ) → Dec (i < t) → cell O (step O g P) t i ≡ cell O (step O g Q) t i
+      go t i (yes l) = step-low g P t i l ∙ sym (step-low g Q t i l)
+      go t i (no l) =
+          step-cell g P t i (omega arith)
+          ∙ ap (λ s. s t) (taylor-same g _ _ (fun-ext λ u. cell-column O L P u (i - t) ∙ ap (λ c. c u (i - t)) e ∙ sym (cell-column O L Q u (i - t))))
+          ∙ sym (step-cell g Q t i (omega arith))
+
+  -- each step takes one from the weight of y: x·y raises i by one with each t
+  pub step-within : (g : Symbol) (e W : ℕ) (Q : List (List Symbol)) → Within O (suc e) W Q → Within O e W (step O g Q)
+  step-within g e W Q h t i l = go (decLt i t)
+    where
+      go : Dec (i < t) → cell O (step O g Q) t i ≡ nil
+      go (yes m) = step-low g Q t i m
+      go (no m) =
+          step-cell g Q t i (omega arith)
+          ∙ taylor-short g _ t (λ u k. cell-column O L Q u (i - t) ∙ h u (i - t) (omega (arith, mul-suc t e, mul-le-mul-right (suc e) k))) t (omega arith)
