@@ -4,3 +4,4 @@ pub mod Taylor
 pub mod Roots
 pub mod Rows
 pub mod Step
+pub mod Strip
