@@ -5,3 +5,4 @@ pub mod Roots
 pub mod Rows
 pub mod Step
 pub mod Strip
+pub mod Search

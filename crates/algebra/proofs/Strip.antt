@@ -1,5 +1,5 @@
 -- The curve stripped: its roots and its coefficients. One record describes it completely, so that nothing after it recurses over it.
-use mathlib.Core.Path.{_≡_, refl, sym, _∙_, ap, ap₂, fun-ext}
+use mathlib.Core.Path.{_≡_, refl, sym, _∙_, ap, ap₂, fun-ext, subst}
 use mathlib.Core.List.{List, [], _∷_, map}
 use mathlib.Core.Logic.{_↔_}
 use Prim.Native.Nat.{ℕ, zero, suc, _<_, _≤_, _+_, _*_}
@@ -119,6 +119,11 @@ module _ (O : Ops) (L : Laws O) where
   pub stripped-same : (n : ℕ) (Q : List (List Symbol)) (S : ℕ → ℕ → Symbol) → Stripped O n (cell O Q) S → ((t i : ℕ) → n ≤ i → cell O Q t i ≡ nil) →
       S ≡ cell O (stripped O Q)
   stripped-same n Q S r h = stripped-one (cell O Q) n (width Q) S _ r (stripped-is Q) h (λ t i l. cell-width O L Q t i l)
+
+  pub stripped-cells : (P Q : List (List Symbol)) → cell O P ≡ cell O Q → cell O (stripped O P) ≡ cell O (stripped O Q)
+  stripped-cells P Q e =
+      stripped-same (width P) Q _ (subst (λ c. Stripped O (width P) c (cell O (stripped O P))) e (stripped-is P))
+      (λ t i l. ap (λ c. c t i) (sym e) ∙ cell-width O L P t i l)
 
   pub stripped-within : (e W : ℕ) (Q : List (List Symbol)) → Within O e W Q → Within O e W (stripped O Q)
   stripped-within e W Q h t i l =
