@@ -6,3 +6,4 @@ pub mod Rows
 pub mod Step
 pub mod Strip
 pub mod Search
+pub mod Alive

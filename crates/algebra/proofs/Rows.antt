@@ -48,8 +48,7 @@ module _ (O : Ops) (L : Laws O) where
   zeros-zero [] = (λ h i. refl, λ z. tt)
   zeros-zero (c ∷ q) =
       let h = both (same c nil) (zeros O q) in
-      let k = zeros-zero q in
-      (
+      let k = zeros-zero q in (
         λ t. elim [ zero ↦ L .same-eq c nil (h .0 t .0) | suc i ↦ k .0 (h .0 t .1) i ],
         λ z. h .1 (same-if O L c nil (z zero), k .1 (λ i. z (suc i))),
       )

@@ -114,7 +114,7 @@ module _ (O : Ops) (L : Laws O) where
       turn g ih = choice (λ fs. fs ≡ keep (λ f. zeros O (along O Q f)) (map (_∷_ g) (messages O k))) (follows O S g)
           (λ t. ap (map (_∷_ g)) (ih ∙ ap (λ test. keep test (messages O k)) (fun-ext (λ f. sym (stripped-test Q (g ∷ f) ∙ step-test g f S)))) ∙ sym (keep-map _ _ _))
           (λ t. sym (keep-map _ _ (messages O k) ∙ ap (map (_∷_ g)) (keep-none _ (λ f z.
-              T-not (follows O S g) t (follows-eval O L S g .1 (sym (along-first O L S g f) ∙ stripped-roots O L Q (g ∷ f) .0 (zeros-zero O L _ .0 z) zero))) (messages O k))))
+          T-not (follows O S g) t (follows-eval O L S g .1 (sym (along-first O L S g f) ∙ stripped-roots O L Q (g ∷ f) .0 (zeros-zero O L _ .0 z) zero))) (messages O k))))
 
   pub tried-alive : (k : ℕ) (Q : List (List Symbol)) → tried O k Q ≡ sum (λ l. alive O l Q) (below (suc k))
   unfolding tried alive

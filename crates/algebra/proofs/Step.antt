@@ -3,7 +3,7 @@ use mathlib.Core.Path.{_≡_, refl, sym, _∙_, ap, ap₂, fun-ext}
 use mathlib.Core.List.{List, [], _∷_, map}
 use mathlib.Core.Logic.{_↔_}
 use Prim.Native.Nat.{ℕ, zero, suc, _<_, _≤_, _+_, _-_, _*_}
-use native.Mathlib.Nat.{add-zero, add-suc, mul-suc, mul-le-mul-right}
+use native.Mathlib.Nat.{add-zero, add-suc, sub-self, mul-suc, mul-le-mul-right}
 use native.Mathlib.Omega.{arith}
 use native.Mathlib.Decide.{decLt}
 use Rattle.rules.specs.Field.{Ops}
@@ -15,7 +15,7 @@ use Rattle.algebra.specs.Search.{cell, Within}
 use Rattle.algebra.proofs.Ring.{mul-nil, nil-add}
 use Rattle.algebra.proofs.Seq.{act-cons, act-linear, act-commutes, shift-linear, horner-map, horner-expand, expand-nil, expand-zero, expand-suc, plus-at, stretch-at, none-at, none-plus, shift-zero, shift-suc, shift-none, lone-nil, lone-zero, lone-suc, near-zero, near-suc}
 use Rattle.algebra.proofs.Taylor.{eval-cons, taylor-nil, taylor-cons, taylor-zero, coef-nil, coef-cons, coef-suc, coef-sum, coef-scale, coef-product, zero-path, path-zero}
-use Rattle.algebra.proofs.Rows.{coef-first, cell-entry, cell-column}
+use Rattle.algebra.proofs.Rows.{coef-first, cell-entry, cell-column, firsts-column}
 
 module _ (O : Ops) (L : Laws O) where
   open Ops O using (Symbol, nil, add, mul)
@@ -111,6 +111,10 @@ module _ (O : Ops) (L : Laws O) where
     where
       back : i ≡ i - t + t
       back = omega arith
+
+  -- at x^t·y^t the t-th Taylor coefficient of Q(0, y) at g
+  pub step-diagonal : (g : Symbol) (Q : List (List Symbol)) (t : ℕ) → cell O (step O g Q) t t ≡ taylor O g (firsts O Q) t
+  step-diagonal g Q t = step-cell g Q t t (omega arith) ∙ rw (sub-self, ← firsts-column O L Q)
 
   -- Taylor coefficients do not see the zeros at the end of a list
   pub taylor-same : (α : Symbol) (p q : List Symbol) → coef O p ≡ coef O q → taylor O α p ≡ taylor O α q
