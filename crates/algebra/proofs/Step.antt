@@ -76,34 +76,31 @@ module _ (O : Ops) (L : Laws O) where
   along-first (q ∷ Q) g f =
       rw (coef-sum, coef-product, act-cons, plus-at, plus-at, stretch-at, shift-zero, L .add-nil, along-first Q g f, coef-first, eval-cons)
 
+  step-row : (g : Symbol) (Q : List (List Symbol)) (t : ℕ) → cell O (step O g Q) t ≡ entry O (expand O (shift O) g (map (coef O) Q)) t
+  step-row g Q t = fun-ext λ i. sym (cell-entry O L (step O g Q) t i) ∙ ap (λ A. entry O A t i) (rows-step g Q)
+
+  -- the coefficients of the step, row by row
+  pub step-zero : (g : Symbol) (q : List Symbol) (Q : List (List Symbol)) (i : ℕ) → cell O (step O g (q ∷ Q)) zero i ≡ add (coef O q i) (mul g (cell O (step O g Q) zero i))
+  step-zero g q Q i = rw (step-row g (q ∷ Q), step-row g Q, expand-zero O L (shift O) (shift-linear O L), plus-at, stretch-at)
+
+  pub step-suc : (g : Symbol) (q : List Symbol) (Q : List (List Symbol)) (t i : ℕ) →
+      cell O (step O g (q ∷ Q)) (suc t) i ≡ add (shift O (cell O (step O g Q) t) i) (mul g (cell O (step O g Q) (suc t) i))
+  step-suc g q Q t i = rw (step-row g (q ∷ Q), step-row g Q t, step-row g Q (suc t), expand-suc O L (shift O) (shift-linear O L), plus-at, stretch-at)
+
   -- the step has a factor x^t at y^t
-  expand-low : (g : Symbol) (A : List (Seq O)) (t i : ℕ) → i < t → entry O (expand O (shift O) g A) t i ≡ nil
-  expand-low g [] t i l = rw expand-nil (none-at O L i)
-  expand-low g (s ∷ A) zero i l = absurd (omega arith)
-  expand-low g (s ∷ A) (suc t) zero l =
-      rw (expand-suc O L (shift O) (shift-linear O L), plus-at, stretch-at, shift-zero, expand-low g A (suc t) zero (omega arith), mul-nil) (L .add-nil nil)
-  expand-low g (s ∷ A) (suc t) (suc i) l =
-      rw (expand-suc O L (shift O) (shift-linear O L), plus-at, stretch-at, shift-suc, expand-low g A t i (omega arith), expand-low g A (suc t) (suc i) (omega arith), mul-nil)
-      (L .add-nil nil)
+  pub step-low : (g : Symbol) (Q : List (List Symbol)) (t i : ℕ) → i < t → cell O (step O g Q) t i ≡ nil
+  step-low g [] t i l = unfold step cell coef in refl
+  step-low g (q ∷ Q) zero i l = absurd (omega arith)
+  step-low g (q ∷ Q) (suc t) zero l = rw (step-suc, shift-zero, step-low g Q (suc t) zero (omega arith), mul-nil) (L .add-nil nil)
+  step-low g (q ∷ Q) (suc t) (suc i) l =
+      rw (step-suc, shift-suc, step-low g Q t i (omega arith), step-low g Q (suc t) (suc i) (omega arith), mul-nil) (L .add-nil nil)
 
   -- and beside it the Taylor coefficients in y at g, column by column
-  expand-high : (g : Symbol) (A : List (Seq O)) (t i : ℕ) → entry O (expand O (shift O) g A) t (i + t) ≡ taylor O g (map (λ s. s i) A) t
-  expand-high g [] t i = rw (expand-nil, taylor-nil) (none-at O L _ ∙ sym (none-at O L t))
-  expand-high g (s ∷ A) zero i =
-      rw (expand-zero O L (shift O) (shift-linear O L), plus-at, stretch-at, expand-high g A zero i, taylor-cons, plus-at, lone-zero, near-zero, add-zero)
-  expand-high g (s ∷ A) (suc t) i =
-      rw (expand-suc O L (shift O) (shift-linear O L), plus-at, stretch-at, expand-high g A (suc t) i, add-suc i t, shift-suc, expand-high g A t i, taylor-cons, plus-at, lone-suc, near-suc, nil-add)
-      (L .add-comm _ _)
-
-  pub step-low : (g : Symbol) (Q : List (List Symbol)) (t i : ℕ) → i < t → cell O (step O g Q) t i ≡ nil
-  step-low g Q t i l = rw (← cell-entry O L (step O g Q), rows-step) (expand-low g _ t i l)
-
   step-high : (g : Symbol) (Q : List (List Symbol)) (t i : ℕ) → cell O (step O g Q) t (i + t) ≡ taylor O g (map (λ q. coef O q i) Q) t
-  step-high g Q t i = rw (← cell-entry O L (step O g Q), rows-step, ← column Q) (expand-high g _ t i)
-    where
-      column : (Q : List (List Symbol)) → map (λ s. s i) (map (coef O) Q) ≡ map (λ q. coef O q i) Q
-      column [] = refl
-      column (q ∷ Q) = ap (_∷_ (coef O q i)) (column Q)
+  step-high g [] t i = rw taylor-nil (unfold step cell coef in sym (none-at O L t))
+  step-high g (q ∷ Q) zero i = rw (step-zero, step-high g Q zero i, taylor-cons, plus-at, lone-zero, near-zero, add-zero)
+  step-high g (q ∷ Q) (suc t) i =
+      rw (step-suc, step-high g Q (suc t) i, add-suc i t, shift-suc, step-high g Q t i, taylor-cons, plus-at, lone-suc, near-suc, nil-add) (L .add-comm _ _)
 
   -- the coefficients of the step, from those of Q
   pub step-cell : (g : Symbol) (Q : List (List Symbol)) (t i : ℕ) → t ≤ i → cell O (step O g Q) t i ≡ taylor O g (map (λ q. coef O q (i - t)) Q) t
@@ -144,12 +141,14 @@ module _ (O : Ops) (L : Laws O) where
           ∙ ap (λ s. s t) (taylor-same g _ _ (fun-ext λ u. cell-column O L P u (i - t) ∙ ap (λ c. c u (i - t)) e ∙ sym (cell-column O L Q u (i - t))))
           ∙ sym (step-cell g Q t i (omega arith))
 
-  -- each step takes one from the weight of y: x·y raises i by one with each t
-  pub step-within : (g : Symbol) (e W : ℕ) (Q : List (List Symbol)) → Within O (suc e) W Q → Within O e W (step O g Q)
-  step-within g e W Q h t i l = go (decLt i t)
+  -- where no row from t on has a coefficient at x^(i − t), the step has none at x^i·y^t
+  pub step-nil : (g : Symbol) (Q : List (List Symbol)) (t i : ℕ) → ((u : ℕ) → t ≤ u → cell O Q u (i - t) ≡ nil) → cell O (step O g Q) t i ≡ nil
+  step-nil g Q t i h = go (decLt i t)
     where
       go : Dec (i < t) → cell O (step O g Q) t i ≡ nil
-      go (yes m) = step-low g Q t i m
-      go (no m) =
-          step-cell g Q t i (omega arith)
-          ∙ taylor-short g _ t (λ u k. cell-column O L Q u (i - t) ∙ h u (i - t) (omega (arith, mul-suc t e, mul-le-mul-right (suc e) k))) t (omega arith)
+      go (yes l) = step-low g Q t i l
+      go (no l) = step-cell g Q t i (omega arith) ∙ taylor-short g _ t (λ u k. cell-column O L Q u (i - t) ∙ h u k) t (omega arith)
+
+  -- each step takes one from the weight of y: x·y raises i by one with each t
+  pub step-within : (g : Symbol) (e W : ℕ) (Q : List (List Symbol)) → Within O (suc e) W Q → Within O e W (step O g Q)
+  step-within g e W Q h t i l = step-nil g Q t i (λ u k. h u (i - t) (omega (arith, mul-suc t e, mul-le-mul-right (suc e) k)))
