@@ -2,6 +2,14 @@ pub mod Ring
 pub mod Seq
 pub mod Taylor
 pub mod Roots
+pub mod Along
+pub mod Lists
+pub mod Bridge
+pub mod Total
+pub mod Weight
+pub mod Hasse
+pub mod Complete
+pub mod Agreement
 pub mod Rows
 pub mod Step
 pub mod Strip

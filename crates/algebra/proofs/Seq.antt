@@ -160,9 +160,9 @@ module _ (O : Ops) (L : Laws O) where
   act-commutes u w l c [] s = sym (of-none w l)
   act-commutes u w l c (d ∷ f) s = rw (act-commutes u w l c f s) (simp (l .of-plus, l .of-stretch, c))
 
-  pub horner-cons : (u : Seq O → Seq O) (s : Seq O) (L : List (Seq O)) → horner O u (s ∷ L) ≡ plus O s (u (horner O u L))
+  pub horner-cons : (u : Seq O → Seq O) (s : Seq O) (A : List (Seq O)) → horner O u (s ∷ A) ≡ plus O s (u (horner O u A))
   unfolding horner
-  horner-cons u s L = refl
+  horner-cons u s A = refl
 
   pub horner-merge : (u : Seq O → Seq O) → Linear u → (A B : List (Seq O)) → horner O u (merge (plus O) A B) ≡ plus O (horner O u A) (horner O u B)
   unfolding horner merge
@@ -176,24 +176,24 @@ module _ (O : Ops) (L : Laws O) where
   horner-map u w l c (s ∷ A) = rw (horner-map u w l c A, c, l .of-plus)
 
   pub horner-expand : (v u w : Seq O → Seq O) (r : Symbol) → Linear u → Linear w → ((s : Seq O) → u (w s) ≡ w (u s)) →
-      ((s : Seq O) → v s ≡ plus O (stretch O r s) (w (u s))) → (L : List (Seq O)) → horner O u (expand O w r L) ≡ horner O v L
+      ((s : Seq O) → v s ≡ plus O (stretch O r s) (w (u s))) → (A : List (Seq O)) → horner O u (expand O w r A) ≡ horner O v A
   unfolding expand
   horner-expand v u w r l k c e [] = unfold horner in refl
-  horner-expand v u w r l k c e (s ∷ L) =
-      horner-merge u l (s ∷ map w (expand O w r L)) (map (stretch O r) (expand O w r L))
-      ∙ rw (horner-cons u, horner-map u w k c, horner-map u (stretch O r) (stretch-linear r) (l .of-stretch r), horner-expand v u w r l k c e L, horner-cons, e, c) (simp seq)
+  horner-expand v u w r l k c e (s ∷ A) =
+      horner-merge u l (s ∷ map w (expand O w r A)) (map (stretch O r) (expand O w r A))
+      ∙ rw (horner-cons u, horner-map u w k c, horner-map u (stretch O r) (stretch-linear r) (l .of-stretch r), horner-expand v u w r l k c e A, horner-cons, e, c) (simp seq)
 
   pub entry-nil : (b : ℕ) → entry O [] b ≡ (none O)
   unfolding entry
   entry-nil b = refl
 
-  pub entry-zero : (s : Seq O) (L : List (Seq O)) → entry O (s ∷ L) zero ≡ s
+  pub entry-zero : (s : Seq O) (A : List (Seq O)) → entry O (s ∷ A) zero ≡ s
   unfolding entry
-  entry-zero s L = refl
+  entry-zero s A = refl
 
-  pub entry-suc : (s : Seq O) (L : List (Seq O)) (b : ℕ) → entry O (s ∷ L) (suc b) ≡ entry O L b
+  pub entry-suc : (s : Seq O) (A : List (Seq O)) (b : ℕ) → entry O (s ∷ A) (suc b) ≡ entry O A b
   unfolding entry
-  entry-suc s L b = refl
+  entry-suc s A b = refl
 
   pub entry-merge : (A B : List (Seq O)) (b : ℕ) → entry O (merge (plus O) A B) b ≡ plus O (entry O A b) (entry O B b)
   unfolding entry merge
@@ -212,15 +212,15 @@ module _ (O : Ops) (L : Laws O) where
   unfolding expand
   expand-nil w r b = entry-nil b
 
-  pub expand-zero : (w : Seq O → Seq O) → Linear w → (r : Symbol) (s : Seq O) (L : List (Seq O)) →
-      entry O (expand O w r (s ∷ L)) zero ≡ plus O s (stretch O r (entry O (expand O w r L) zero))
+  pub expand-zero : (w : Seq O → Seq O) → Linear w → (r : Symbol) (s : Seq O) (A : List (Seq O)) →
+      entry O (expand O w r (s ∷ A)) zero ≡ plus O s (stretch O r (entry O (expand O w r A) zero))
   unfolding expand
-  expand-zero w l r s L = rw (entry-merge, entry-zero, entry-map (stretch O r) (stretch-linear r))
+  expand-zero w l r s A = rw (entry-merge, entry-zero, entry-map (stretch O r) (stretch-linear r))
 
-  pub expand-suc : (w : Seq O → Seq O) → Linear w → (r : Symbol) (s : Seq O) (L : List (Seq O)) (b : ℕ) →
-      entry O (expand O w r (s ∷ L)) (suc b) ≡ plus O (w (entry O (expand O w r L) b)) (stretch O r (entry O (expand O w r L) (suc b)))
+  pub expand-suc : (w : Seq O → Seq O) → Linear w → (r : Symbol) (s : Seq O) (A : List (Seq O)) (b : ℕ) →
+      entry O (expand O w r (s ∷ A)) (suc b) ≡ plus O (w (entry O (expand O w r A) b)) (stretch O r (entry O (expand O w r A) (suc b)))
   unfolding expand
-  expand-suc w l r s L b = rw (entry-merge, entry-suc, entry-map w l, entry-map (stretch O r) (stretch-linear r))
+  expand-suc w l r s A b = rw (entry-merge, entry-suc, entry-map w l, entry-map (stretch O r) (stretch-linear r))
 
   -- sequences that begin with zeros
   pub plus-val : (k : ℕ) (a b : Seq O) → Val O k a → Val O k b → Val O k (plus O a b)
@@ -233,13 +233,13 @@ module _ (O : Ops) (L : Laws O) where
   shift-val k a h zero l = shift-zero a
   shift-val k a h (suc i) l = shift-suc a i ∙ h i (omega arith)
 
-  pub horner-val : (u : Seq O → Seq O) → ((k : ℕ) (s : Seq O) → Val O k s → Val O (suc k) (u s)) → (L : List (Seq O)) (m : ℕ) →
-      ((a b : ℕ) → a + b < m → entry O L b a ≡ nil) → Val O m (horner O u L)
+  pub horner-val : (u : Seq O → Seq O) → ((k : ℕ) (s : Seq O) → Val O k s → Val O (suc k) (u s)) → (A : List (Seq O)) (m : ℕ) →
+      ((a b : ℕ) → a + b < m → entry O A b a ≡ nil) → Val O m (horner O u A)
   unfolding horner entry
   horner-val u w [] m h = λ i l. none-at i
-  horner-val u w (s ∷ L) m h =
+  horner-val u w (s ∷ A) m h =
       plus-val m _ _ (λ i l. h i 0 (omega arith))
-      (λ i l. w (m - 1) _ (horner-val u w L (m - 1) (λ a b g. h a (suc b) (omega arith))) i (omega arith))
+      (λ i l. w (m - 1) _ (horner-val u w A (m - 1) (λ a b g. h a (suc b) (omega arith))) i (omega arith))
 
   -- sequences that end in zeros
   pub plus-short : (n : ℕ) (a b : Seq O) → Short O n a → Short O n b → Short O n (plus O a b)

@@ -1,3 +1,5 @@
 pub mod Poly
 pub mod Points
+pub mod Hom
+pub mod Conditions
 pub mod Search
