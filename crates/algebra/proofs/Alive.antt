@@ -12,6 +12,7 @@ use Rattle.rules.specs.Lists.{from, below, all, sum, distinct}
 use Rattle.rules.specs.Field.{Ops}
 use Rattle.rules.specs.Laws.{Laws}
 use Rattle.rules.specs.Code.{zeros, eval}
+use Rattle.rules.proofs.Tests.{both, either}
 use Rattle.rules.specs.Search.{rows, width, first, firsts, stripped, step, follows, alive, beginnings, roots}
 use Rattle.algebra.specs.Poly.{Seq, Val, Short, Zero, coef, taylor}
 use Rattle.algebra.specs.Points.{Away, Distinct, Root, places, count, Roots}
@@ -19,7 +20,7 @@ use Rattle.algebra.specs.Search.{cell, next, found, tried, Headed}
 use Rattle.algebra.proofs.Ring.{same-if}
 use Rattle.algebra.proofs.Taylor.{taylor-eval, coef-short}
 use Rattle.algebra.proofs.Roots.{root-count, root-count-short}
-use Rattle.algebra.proofs.Rows.{choice, both, rows-length, cell-firsts, cell-width, cell-rows, follows-eval}
+use Rattle.algebra.proofs.Rows.{rows-length, cell-firsts, cell-width, cell-rows, follows-eval}
 use Rattle.algebra.proofs.Step.{step-low, step-diagonal}
 use Rattle.algebra.proofs.Strip.{stripped-length, stripped-is, stripped-kept}
 use Rattle.algebra.proofs.Search.{sum-below, found-roots, tried-alive, tried-beginnings}
@@ -80,7 +81,7 @@ module _ (O : Ops) (L : Laws O) where
   order-is zero s = record { low = λ i l. absurd (omega arith); hit = λ l. absurd (omega arith) }
   order-is (suc n) s =
       let o = order-is n (λ i. s (suc i)) in
-      choice (Order (suc n) s) (same (s zero) nil)
+      either (Order (suc n) s) _ _ (same (s zero) nil)
       (λ t. record { low = elim [ zero ↦ λ l. L .same-eq _ nil t | suc i ↦ λ l. o .low i (omega arith) ]; hit = λ l. o .hit (omega arith) })
       (λ t. record { low = λ i l. absurd (omega arith); hit = λ l e. T-not (same (s zero) nil) t (same-if O L _ nil e) })
 
@@ -109,12 +110,12 @@ module _ (O : Ops) (L : Laws O) where
   away : (α : Symbol) (xs : List Symbol) → T (all (λ y. not (same α y)) xs) → Away O α xs
   unfolding all
   away α [] t = tt
-  away α (x ∷ xs) t = let h = both (not (same α x)) _ .0 t in (λ e. T-not (same α x) (h .0) (same-if O L α x (sym e)), away α xs (h .1))
+  away α (x ∷ xs) t = let h = both (not (same α x)) _ t in (λ e. T-not (same α x) (h .0) (same-if O L α x (sym e)), away α xs (h .1))
 
   apart : (xs : List Symbol) → T (distinct same xs) → Distinct O xs
   unfolding distinct
   apart [] t = tt
-  apart (x ∷ xs) t = let h = both (all (λ y. not (same x y)) xs) _ .0 t in (away x xs (h .0), apart xs (h .1))
+  apart (x ∷ xs) t = let h = both (all (λ y. not (same x y)) xs) _ t in (away x xs (h .0), apart xs (h .1))
 
   -- the multiplicities of all symbols add up to the degree at the most
   mult-sum : (h : List Symbol) (d : ℕ) → ¬ Zero O h → Short O (suc d) (coef O h) → sum (mult h) symbols ≤ d
@@ -155,7 +156,7 @@ module _ (O : Ops) (L : Laws O) where
       omega (
         arith,
         mult-sum (firsts O Q) d (h .live) (h .short),
-        sum-le (λ g. cond (follows O Q g) (w g) 0) m (λ g. choice (λ x. x ≤ m g) (follows O Q g) (λ t. k g (follows-eval O L Q g .0 t)) (λ t. omega arith)) symbols,
+        sum-le (λ g. cond (follows O Q g) (w g) 0) m (λ g. either (λ x. x ≤ m g) _ _ (follows O Q g) (λ t. k g (follows-eval O L Q g .0 t)) (λ t. omega arith)) symbols,
       )
 
   pub alive-few : (l : ℕ) (Q : List (List Symbol)) (d : ℕ) → Headed O d Q → alive O (suc l) Q ≤ d
@@ -165,7 +166,7 @@ module _ (O : Ops) (L : Laws O) where
 
   found-alive : (k : ℕ) (Q : List (List Symbol)) → length (found O k Q) ≤ alive O k Q
   unfolding found alive
-  found-alive zero Q = choice (λ (fs : List (List Symbol)). length fs ≤ 1) (zeros O (getD Q 0 [])) (λ t. omega arith) (λ t. omega arith)
+  found-alive zero Q = either (λ (fs : List (List Symbol)). length fs ≤ 1) _ _ (zeros O (getD Q 0 [])) (λ t. omega arith) (λ t. omega arith)
   found-alive (suc k) Q =
       rw (length-flatMap (λ g. cond (follows O Q g) (map (_∷_ g) (found O k (next O g Q))) []) symbols)
       (sum-le _ _ (λ g. turn g (found-alive k (next O g Q))) symbols)

@@ -1,10 +1,11 @@
--- Tests as facts, and the coefficients of a curve that is a list of rows.
+-- The coefficients of a curve that is a list of rows, and the tests on it as facts.
 use mathlib.Core.Path.{_≡_, refl, sym, _∙_, ap, fun-ext}
 use mathlib.Core.Bool.{Bool, true, false, cond, not, _&&_}
 use mathlib.Core.List.{List, [], _∷_, map}
-use mathlib.Core.Logic.{_↔_}
+use mathlib.Core.Logic.{_↔_, by-cases}
 use Prim.Native.Nat.{ℕ, zero, suc, _<_, _≤_, _+_, _*_}
 use native.Mathlib.Omega.{arith}
+use native.Mathlib.Decide.{decLt}
 use lib.Dec.{T}
 use lib.ListN.{length, getD, take, drop, List·getD-eq-default, length-take}
 use lib.Seq.{getD-take, getD-drop}
@@ -12,28 +13,13 @@ use Rattle.rules.specs.Lists.{all}
 use Rattle.rules.specs.Field.{Ops}
 use Rattle.rules.specs.Laws.{Laws}
 use Rattle.rules.specs.Code.{zeros, eval}
+use Rattle.rules.proofs.Tests.{both, and}
 use Rattle.rules.specs.Search.{rows, width, rest, first, firsts, follows}
 use Rattle.algebra.specs.Poly.{Zero, coef, entry}
 use Rattle.algebra.specs.Search.{cell}
 use Rattle.algebra.proofs.Ring.{same-if}
 use Rattle.algebra.proofs.Seq.{entry-nil, entry-zero, entry-suc, none-at}
 use Rattle.algebra.proofs.Taylor.{coef-short}
-
--- what holds in both cases of a test holds of its choice
-pub choice : {A : Type 0} (M : A → Type 0) (b : Bool) {x y : A} → (T b → M x) → (T (not b) → M y) → M (cond b x y)
-choice M true f g = f tt
-choice M false f g = g tt
-
--- tests that hold together are equal
-pub together : (a b : Bool) → T a ↔ T b → a ≡ b
-together true true h = refl
-together true false h = absurd (h .0 tt)
-together false true h = absurd (h .1 tt)
-together false false h = refl
-
-pub both : (a b : Bool) → T (a && b) ↔ T a × T b
-both true b = (λ t. (tt, t), λ h. h .1)
-both false b = (λ t. absurd t, λ h. h .0)
 
 pub rows-length : {A : Type 0} (W n : ℕ) (Q : List A) → length (rows W n Q) ≡ n
 unfolding rows
@@ -47,10 +33,10 @@ module _ (O : Ops) (L : Laws O) where
   unfolding zeros all coef
   zeros-zero [] = (λ h i. refl, λ z. tt)
   zeros-zero (c ∷ q) =
-      let h = both (same c nil) (zeros O q) in
-      let k = zeros-zero q in (
-        λ t. elim [ zero ↦ L .same-eq c nil (h .0 t .0) | suc i ↦ k .0 (h .0 t .1) i ],
-        λ z. h .1 (same-if O L c nil (z zero), k .1 (λ i. z (suc i))),
+      let k = zeros-zero q in
+      (
+        λ t. let h = both (same c nil) (zeros O q) t in elim [ zero ↦ L .same-eq c nil (h .0) | suc i ↦ k .0 (h .1) i ],
+        λ z. and (same c nil) (zeros O q) (same-if O L c nil (z zero)) (k .1 (λ i. z (suc i))),
       )
 
   pub coef-first : (q : List Symbol) → coef O q zero ≡ first O q
@@ -122,3 +108,10 @@ module _ (O : Ops) (L : Laws O) where
   pub follows-eval : (Q : List (List Symbol)) (g : Symbol) → T (follows O Q g) ↔ eval O (firsts O Q) g ≡ nil
   unfolding follows
   follows-eval Q g = (L .same-eq _ nil, same-if O L _ nil)
+
+  -- a flat curve holds the coefficients of Q, where Q has none outside of it
+  pub rows-cells : (W n : ℕ) (s : List Symbol) (Q : List (List Symbol)) → ((t i : ℕ) → t < n → i < W → getD s (t * W + i) nil ≡ cell O Q t i) →
+      ((t i : ℕ) → n ≤ t → cell O Q t i ≡ nil) → ((t i : ℕ) → W ≤ i → cell O Q t i ≡ nil) → cell O (rows W n s) ≡ cell O Q
+  rows-cells W n s Q h tall wide = fun-ext λ t. fun-ext λ i. by-cases (decLt t n)
+      (λ l. by-cases (decLt i W) (λ m. cell-rows W n t i s l m ∙ h t i l m) (λ m. rows-wide W n t i s (omega arith) ∙ sym (wide t i (omega arith))))
+      (λ l. cell-length (rows W n s) t i (omega (arith, rows-length W n s)) ∙ sym (tall t i (omega arith)))

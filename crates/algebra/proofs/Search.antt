@@ -13,11 +13,12 @@ use Rattle.rules.specs.Lists.{from, below, keep, sum}
 use Rattle.rules.specs.Field.{Ops}
 use Rattle.rules.specs.Laws.{Laws}
 use Rattle.rules.specs.Code.{zeros, messages}
+use Rattle.rules.proofs.Tests.{either, same-test}
 use Rattle.rules.specs.Search.{merge, firsts, stripped, step, follows, alive, beginnings, product, along, roots}
 use Rattle.algebra.specs.Poly.{Zero, coef}
 use Rattle.algebra.specs.Search.{cell, next, found, tried}
 use Rattle.algebra.proofs.Taylor.{taylor-eval}
-use Rattle.algebra.proofs.Rows.{choice, together, zeros-zero, cell-firsts, follows-eval}
+use Rattle.algebra.proofs.Rows.{zeros-zero, cell-firsts, follows-eval}
 use Rattle.algebra.proofs.Step.{along-step, along-first, taylor-same, step-same}
 use Rattle.algebra.proofs.Strip.{stripped-roots, stripped-cells}
 
@@ -47,7 +48,7 @@ keep-map test f (x ∷ xs) = rw (keep-map test f xs) (go (test (f x)))
 keep-none : {A : Type 0} (test : A → Bool) → ((x : A) → T (test x) → ⊥) → (xs : List A) → keep test xs ≡ []
 unfolding keep
 keep-none test h [] = refl
-keep-none test h (x ∷ xs) = choice (λ ys. ys ≡ []) (test x) (λ t. absurd (h x t)) (λ t. keep-none test h xs)
+keep-none test h (x ∷ xs) = either (λ ys. ys ≡ []) _ _ (test x) (λ t. absurd (h x t)) (λ t. keep-none test h xs)
 
 sum-zero : {A : Type 0} (xs : List A) → sum (λ x. 0) xs ≡ 0
 unfolding sum
@@ -84,7 +85,7 @@ module _ (O : Ops) (L : Laws O) where
   zeros-same p q h =
       let a = zeros-zero O L p in
       let b = zeros-zero O L q in
-      together _ _ (λ t. b .1 (h .0 (a .0 t)), λ t. a .1 (h .1 (b .0 t)))
+      same-test _ _ (λ t. b .1 (h .0 (a .0 t))) (λ t. a .1 (h .1 (b .0 t)))
 
   -- Q along the empty message is its row at y^0
   along-empty : (Q : List (List Symbol)) → along O Q [] ≡ getD Q 0 []
@@ -111,7 +112,7 @@ module _ (O : Ops) (L : Laws O) where
 
       turn : (g : Symbol) → found O k (next O g S) ≡ roots O k (step O g S) →
           cond (follows O S g) (map (_∷_ g) (found O k (next O g S))) [] ≡ keep (λ f. zeros O (along O Q f)) (map (_∷_ g) (messages O k))
-      turn g ih = choice (λ fs. fs ≡ keep (λ f. zeros O (along O Q f)) (map (_∷_ g) (messages O k))) (follows O S g)
+      turn g ih = either (λ fs. fs ≡ keep (λ f. zeros O (along O Q f)) (map (_∷_ g) (messages O k))) _ _ (follows O S g)
           (λ t. ap (map (_∷_ g)) (ih ∙ ap (λ test. keep test (messages O k)) (fun-ext (λ f. sym (stripped-test Q (g ∷ f) ∙ step-test g f S)))) ∙ sym (keep-map _ _ _))
           (λ t. sym (keep-map _ _ (messages O k) ∙ ap (map (_∷_ g)) (keep-none _ (λ f z.
           T-not (follows O S g) t (follows-eval O L S g .1 (sym (along-first O L S g f) ∙ stripped-roots O L Q (g ∷ f) .0 (zeros-zero O L _ .0 z) zero))) (messages O k))))

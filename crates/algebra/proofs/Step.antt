@@ -1,7 +1,7 @@
 -- One step of the root search: Q(x, x·y + g) as an operator on rows, its coefficients, and the roots that it keeps.
 use mathlib.Core.Path.{_≡_, refl, sym, _∙_, ap, ap₂, fun-ext}
 use mathlib.Core.List.{List, [], _∷_, map}
-use mathlib.Core.Logic.{_↔_}
+use mathlib.Core.Logic.{_↔_, by-cases}
 use Prim.Native.Nat.{ℕ, zero, suc, _<_, _≤_, _+_, _-_, _*_}
 use native.Mathlib.Nat.{add-zero, add-suc, sub-self, mul-suc, mul-le-mul-right}
 use native.Mathlib.Omega.{arith}
@@ -132,23 +132,21 @@ module _ (O : Ops) (L : Laws O) where
 
   -- the step of curves with the same coefficients has the same coefficients
   pub step-same : (g : Symbol) (P Q : List (List Symbol)) → cell O P ≡ cell O Q → cell O (step O g P) ≡ cell O (step O g Q)
-  step-same g P Q e = fun-ext λ t. fun-ext λ i. go t i (decLt i t)
-    where
-      go : (t i : ℕ) → Dec (i < t) → cell O (step O g P) t i ≡ cell O (step O g Q) t i
-      go t i (yes l) = step-low g P t i l ∙ sym (step-low g Q t i l)
-      go t i (no l) =
-          step-cell g P t i (omega arith)
-          ∙ ap (λ s. s t) (taylor-same g _ _ (fun-ext λ u. cell-column O L P u (i - t) ∙ ap (λ c. c u (i - t)) e ∙ sym (cell-column O L Q u (i - t))))
-          ∙ sym (step-cell g Q t i (omega arith))
+  step-same g P Q e = fun-ext λ t. fun-ext λ i. by-cases (decLt i t)
+      (λ l. step-low g P t i l ∙ sym (step-low g Q t i l))
+      (λ l. step-cell g P t i (omega arith)
+      ∙ ap (λ s. s t) (taylor-same g _ _ (fun-ext λ u. cell-column O L P u (i - t) ∙ ap (λ c. c u (i - t)) e ∙ sym (cell-column O L Q u (i - t))))
+      ∙ sym (step-cell g Q t i (omega arith)))
 
   -- where no row from t on has a coefficient at x^(i − t), the step has none at x^i·y^t
   pub step-nil : (g : Symbol) (Q : List (List Symbol)) (t i : ℕ) → ((u : ℕ) → t ≤ u → cell O Q u (i - t) ≡ nil) → cell O (step O g Q) t i ≡ nil
-  step-nil g Q t i h = go (decLt i t)
-    where
-      go : Dec (i < t) → cell O (step O g Q) t i ≡ nil
-      go (yes l) = step-low g Q t i l
-      go (no l) = step-cell g Q t i (omega arith) ∙ taylor-short g _ t (λ u k. cell-column O L Q u (i - t) ∙ h u k) t (omega arith)
+  step-nil g Q t i h = by-cases (decLt i t) (step-low g Q t i)
+      (λ l. step-cell g Q t i (omega arith) ∙ taylor-short g _ t (λ u k. cell-column O L Q u (i - t) ∙ h u k) t (omega arith))
 
   -- each step takes one from the weight of y: x·y raises i by one with each t
   pub step-within : (g : Symbol) (e W : ℕ) (Q : List (List Symbol)) → Within O (suc e) W Q → Within O e W (step O g Q)
   step-within g e W Q h t i l = step-nil g Q t i (λ u k. h u (i - t) (omega (arith, mul-suc t e, mul-le-mul-right (suc e) k)))
+
+  -- and adds no row
+  pub step-tall : (g : Symbol) (n : ℕ) (Q : List (List Symbol)) → ((t i : ℕ) → n ≤ t → cell O Q t i ≡ nil) → (t i : ℕ) → n ≤ t → cell O (step O g Q) t i ≡ nil
+  step-tall g n Q h t i l = step-nil g Q t i (λ u k. h u (i - t) (omega arith))

@@ -1,7 +1,7 @@
 -- The curve stripped: its roots and its coefficients. One record describes it completely, so that nothing after it recurses over it.
 use mathlib.Core.Path.{_≡_, refl, sym, _∙_, ap, ap₂, fun-ext, subst}
 use mathlib.Core.List.{List, [], _∷_, map}
-use mathlib.Core.Logic.{_↔_}
+use mathlib.Core.Logic.{_↔_, by-cases}
 use Prim.Native.Nat.{ℕ, zero, suc, _<_, _≤_, _+_, _*_}
 use native.Mathlib.Nat.{add-zero, add-suc}
 use native.Mathlib.Omega.{arith}
@@ -11,11 +11,12 @@ use lib.ListN.{length, length-map}
 use Rattle.rules.specs.Field.{Ops}
 use Rattle.rules.specs.Laws.{Laws}
 use Rattle.rules.specs.Code.{zeros}
+use Rattle.rules.proofs.Tests.{either}
 use Rattle.rules.specs.Search.{width, rest, firsts, strip, stripped, along}
 use Rattle.algebra.specs.Poly.{Zero, coef, shift}
 use Rattle.algebra.specs.Search.{cell, Stripped, Within}
 use Rattle.algebra.proofs.Seq.{shift-zero, shift-suc}
-use Rattle.algebra.proofs.Rows.{choice, zeros-zero, coef-first, coef-rest, cell-firsts, cell-rest, cell-width}
+use Rattle.algebra.proofs.Rows.{zeros-zero, coef-first, coef-rest, cell-firsts, cell-rest, cell-width}
 use Rattle.algebra.proofs.Step.{shift-roots}
 
 module _ (O : Ops) (L : Laws O) where
@@ -35,7 +36,7 @@ module _ (O : Ops) (L : Laws O) where
   strip-roots zero Q f = (λ z. z, λ z. z)
   strip-roots (suc n) Q f =
       let e = strip-roots n (map rest Q) f in
-      choice (λ S. Zero O (along O Q f) ↔ Zero O (along O S f)) (zeros O (firsts O Q))
+      either (λ S. Zero O (along O Q f) ↔ Zero O (along O S f)) _ _ (zeros O (firsts O Q))
       (λ h. let a = shift-roots O L f Q (map rest Q) (rows-rest Q (zeros-zero O L _ .0 h)) in (λ z. e .0 (a .0 z), λ z. a .1 (e .1 z)))
       (λ h. (λ z. z, λ z. z))
 
@@ -49,7 +50,7 @@ module _ (O : Ops) (L : Laws O) where
   strip-length zero Q = refl
   strip-length (suc n) Q =
       let e = strip-length n (map rest Q) ∙ length-map Q rest in
-      choice (λ (S : List (List Symbol)). length S ≡ length Q) (zeros O (firsts O Q)) (λ h. e) (λ h. refl)
+      either (λ (S : List (List Symbol)). length S ≡ length Q) _ _ (zeros O (firsts O Q)) (λ h. e) (λ h. refl)
 
   pub stripped-length : (Q : List (List Symbol)) → length (stripped O Q) ≡ length Q
   unfolding stripped
@@ -66,7 +67,7 @@ module _ (O : Ops) (L : Laws O) where
   }
   strip-is (suc n) Q =
       let r = strip-is n (map rest Q) in
-      choice (λ S. Stripped O (suc n) (cell O Q) (cell O S)) (zeros O (firsts O Q))
+      either (λ S. Stripped O (suc n) (cell O Q) (cell O S)) _ _ (zeros O (firsts O Q))
       (λ h. record {
         v = suc (r .v);
         small = omega (arith, r .small);
@@ -88,32 +89,21 @@ module _ (O : Ops) (L : Laws O) where
 
   -- a coefficient that is not zero stands at the power divided out or above
   pub stripped-kept : (n : ℕ) (P S : ℕ → ℕ → Symbol) (r : Stripped O n P S) (t i : ℕ) → ¬ (P t i ≡ nil) → r .v ≤ i
-  stripped-kept n P S r t i k = go (decLe (r .v) i)
-    where
-      go : Dec (r .v ≤ i) → r .v ≤ i
-      go (yes l) = l
-      go (no l) = absurd (k (r .clear t i (omega arith)))
+  stripped-kept n P S r t i k = by-cases (decLe (r .v) i) (λ l. l) (λ l. absurd (k (r .clear t i (omega arith))))
 
   -- what is divided out is determined, whatever bound it is looked for below
   module _ (P : ℕ → ℕ → Symbol) where
     half : (m n : ℕ) (S R : ℕ → ℕ → Symbol) (r : Stripped O m P S) (s : Stripped O n P R) → ((t i : ℕ) → m ≤ i → P t i ≡ nil) → r .v < s .v →
         (t i : ℕ) → S t i ≡ R t i
-    half m n S R r s h l t i = go (decLe m (r .v))
-      where
-        go : Dec (m ≤ r .v) → S t i ≡ R t i
-        go (yes k) = r .moved t i ∙ h t _ (omega arith) ∙ sym (s .moved t i ∙ h t _ (omega arith))
-        go (no k) = absurd (r .stop (omega arith) (λ t. s .clear t _ l))
+    half m n S R r s h l t i = by-cases (decLe m (r .v))
+        (λ k. r .moved t i ∙ h t _ (omega arith) ∙ sym (s .moved t i ∙ h t _ (omega arith)))
+        (λ k. absurd (r .stop (omega arith) (λ t. s .clear t _ l)))
 
     pub stripped-one : (m n : ℕ) (S R : ℕ → ℕ → Symbol) → Stripped O m P S → Stripped O n P R →
         ((t i : ℕ) → m ≤ i → P t i ≡ nil) → ((t i : ℕ) → n ≤ i → P t i ≡ nil) → S ≡ R
-    stripped-one m n S R r s h k = fun-ext λ t. fun-ext λ i. go t i (decLt (r .v) (s .v)) (decLt (s .v) (r .v))
-      where
-        go : (t i : ℕ) → Dec (r .v < s .v) → Dec (s .v < r .v) → S t i ≡ R t i
-        go t i (yes l) d = half m n S R r s h l t i
-        go t i (no l) (yes g) = sym (half n m R S s r k g t i)
-        go t i (no l) (no g) =
-            let e : r .v ≡ s .v = omega arith in
-            r .moved t i ∙ ap (λ v. P t (i + v)) e ∙ sym (s .moved t i)
+    stripped-one m n S R r s h k = fun-ext λ t. fun-ext λ i. by-cases (decLt (r .v) (s .v)) (λ l. half m n S R r s h l t i)
+        (λ l. by-cases (decLt (s .v) (r .v)) (λ g. sym (half n m R S s r k g t i))
+        (λ g. let e : r .v ≡ s .v = omega arith in r .moved t i ∙ ap (λ v. P t (i + v)) e ∙ sym (s .moved t i)))
 
   -- so a curve that is cut out of the coefficients of Q is Q stripped
   pub stripped-same : (n : ℕ) (Q : List (List Symbol)) (S : ℕ → ℕ → Symbol) → Stripped O n (cell O Q) S → ((t i : ℕ) → n ≤ i → cell O Q t i ≡ nil) →
