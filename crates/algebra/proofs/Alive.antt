@@ -1,7 +1,7 @@
 -- At most d beginnings of each length are alive where Q(0, y) has degree d: the next curve's degree is at most the multiplicity of the symbol taken.
 use mathlib.Core.Path.{_≡_, refl, sym, _∙_, ap, subst}
 use mathlib.Core.Bool.{Bool, true, false, cond, not, _&&_}
-use mathlib.Core.List.{List, [], _∷_, _++_, map, flatMap}
+use mathlib.Core.List.{List, [], _∷_, map, flatMap}
 use Prim.Native.Nat.{ℕ, zero, suc, _<_, _≤_, _+_, _-_, _*_, _/_, _%_}
 use native.Mathlib.Nat.{zero-add, mod-lt, div-add-mod', div-lt-iff-lt-mul, mul-suc}
 use native.Mathlib.Omega.{arith}

@@ -14,4 +14,5 @@ pub mod Rows
 pub mod Step
 pub mod Strip
 pub mod Search
+pub mod Slot
 pub mod Alive

@@ -1,6 +1,5 @@
 -- The coefficients of a curve that is a list of rows, and the tests on it as facts.
 use mathlib.Core.Path.{_≡_, refl, sym, _∙_, ap, fun-ext}
-use mathlib.Core.Bool.{Bool, true, false, cond, not, _&&_}
 use mathlib.Core.List.{List, [], _∷_, map}
 use mathlib.Core.Logic.{_↔_, by-cases}
 use Prim.Native.Nat.{ℕ, zero, suc, _<_, _≤_, _+_, _*_}
@@ -33,8 +32,7 @@ module _ (O : Ops) (L : Laws O) where
   unfolding zeros all coef
   zeros-zero [] = (λ h i. refl, λ z. tt)
   zeros-zero (c ∷ q) =
-      let k = zeros-zero q in
-      (
+      let k = zeros-zero q in (
         λ t. let h = both (same c nil) (zeros O q) t in elim [ zero ↦ L .same-eq c nil (h .0) | suc i ↦ k .0 (h .1) i ],
         λ z. and (same c nil) (zeros O q) (same-if O L c nil (z zero)) (k .1 (λ i. z (suc i))),
       )

@@ -1,22 +1,24 @@
 -- The search finds exactly the roots, in order, and tries exactly the beginnings; both depend on the coefficients alone.
 use mathlib.Core.Path.{_≡_, refl, sym, _∙_, ap, fun-ext}
-use mathlib.Core.Bool.{Bool, true, false, cond, not}
+use mathlib.Core.Bool.{Bool, true, false, cond}
 use mathlib.Core.List.{List, [], _∷_, _++_, map, flatMap}
 use mathlib.Core.Logic.{_↔_}
 use Prim.Native.Nat.{ℕ, zero, suc, _+_}
-use native.Mathlib.Nat.{add-assoc, add-left-comm}
 use native.Mathlib.Numerals.{add-one}
 use native.Mathlib.Omega.{arith}
 use lib.Dec.{T, T-not}
-use lib.ListN.{getD}
+use lib.ListN.{getD, List·getD-map}
 use Rattle.rules.specs.Lists.{from, below, keep, sum}
 use Rattle.rules.specs.Field.{Ops}
 use Rattle.rules.specs.Laws.{Laws}
 use Rattle.rules.specs.Code.{zeros, messages}
 use Rattle.rules.proofs.Tests.{either, same-test}
 use Rattle.rules.specs.Search.{merge, firsts, stripped, step, follows, alive, beginnings, product, along, roots}
-use Rattle.algebra.specs.Poly.{Zero, coef}
+use Rattle.algebra.specs.Poly.{Zero}
 use Rattle.algebra.specs.Search.{cell, next, found, tried}
+use Rattle.algebra.specs.Hom.{Hom}
+use Rattle.algebra.proofs.Lists.{sum-map, map-cond, map-square, map-flatMap}
+use Rattle.algebra.proofs.Bridge.{zeros-hom, stripped-hom, step-hom, follows-hom}
 use Rattle.algebra.proofs.Taylor.{taylor-eval}
 use Rattle.algebra.proofs.Rows.{zeros-zero, cell-firsts, follows-eval}
 use Rattle.algebra.proofs.Step.{along-step, along-first, taylor-same, step-same}
@@ -100,11 +102,17 @@ module _ (O : Ops) (L : Laws O) where
   step-test : (g : Symbol) (f : List Symbol) (Q : List (List Symbol)) → zeros O (along O Q (g ∷ f)) ≡ zeros O (along O (step O g Q) f)
   step-test g f Q = zeros-same _ _ (λ z. rw along-step z, λ z. rw along-step at z)
 
+  -- at the end the power divided out does not matter
+  pub found-stripped : (Q : List (List Symbol)) → found O 0 (stripped O Q) ≡ found O 0 Q
+  unfolding found
+  found-stripped Q =
+      ap (λ b. cond b ([] ∷ []) []) (ap (zeros O) (sym (along-empty (stripped O Q))) ∙ sym (stripped-test Q []) ∙ ap (zeros O) (along-empty Q))
+
   -- "those messages whose polynomial f has Q(x, f(x)) = 0", in order
   pub found-roots : (k : ℕ) (Q : List (List Symbol)) → found O k (stripped O Q) ≡ roots O k Q
   unfolding found roots messages
   found-roots zero Q =
-      ap (λ b. cond b ([] ∷ []) []) (ap (zeros O) (sym (along-empty (stripped O Q))) ∙ sym (stripped-test Q [])) ∙ unfold keep in refl
+      found-stripped Q ∙ ap (λ b. cond b ([] ∷ []) []) (ap (zeros O) (sym (along-empty Q))) ∙ unfold keep in refl
   found-roots (suc k) Q = ap (λ w. flatMap w symbols) (fun-ext (λ g. turn g (found-roots k (step O g S)))) ∙ sym (keep-flatMap _ _ symbols)
     where
       S : List (List Symbol)
@@ -135,6 +143,12 @@ module _ (O : Ops) (L : Laws O) where
 
   -- Curves with the same coefficients are searched alike.
 
+  -- at the end only the row at y^0 matters
+  pub found-row : (P Q : List (List Symbol)) → cell O P 0 ≡ cell O Q 0 → found O 0 P ≡ found O 0 Q
+  unfolding found cell
+  found-row P Q e =
+      ap (λ b. cond b ([] ∷ []) []) (zeros-same _ _ (λ z i. ap (λ c. c i) (sym e) ∙ z i, λ z i. ap (λ c. c i) e ∙ z i))
+
   pub follows-same : (P Q : List (List Symbol)) (g : Symbol) → cell O P ≡ cell O Q → follows O P g ≡ follows O Q g
   unfolding follows
   follows-same P Q g e =
@@ -147,9 +161,8 @@ module _ (O : Ops) (L : Laws O) where
   next-same P Q g e = stripped-cells O L _ _ (step-same O L g P Q e)
 
   pub found-same : (k : ℕ) (P Q : List (List Symbol)) → cell O P ≡ cell O Q → found O k P ≡ found O k Q
-  unfolding found cell
-  found-same zero P Q e =
-      ap (λ b. cond b ([] ∷ []) []) (zeros-same _ _ (λ z i. ap (λ c. c 0 i) (sym e) ∙ z i, λ z i. ap (λ c. c 0 i) e ∙ z i))
+  unfolding found
+  found-same zero P Q e = found-row P Q (ap (λ c. c 0) e)
   found-same (suc k) P Q e =
       ap (λ w. flatMap w symbols) (fun-ext λ g. rw (follows-same P Q g e, found-same k (next O g P) (next O g Q) (next-same P Q g e)))
 
@@ -158,3 +171,26 @@ module _ (O : Ops) (L : Laws O) where
   tried-same zero P Q e = refl
   tried-same (suc k) P Q e =
       ap (λ w. 1 + sum w symbols) (fun-ext λ g. rw (follows-same P Q g e, tried-same k _ _ (next-same P Q g e)))
+
+-- The search on numbers and the search in the field
+module _ (O O′ : Ops) (φ : O .Symbol → O′ .Symbol) (H : Hom O O′ φ) where
+  open Ops O using (Symbol, symbols)
+
+  pub found-hom : (k : ℕ) (Q : List (List Symbol)) → map (map φ) (found O k Q) ≡ found O′ k (map (map φ) Q)
+  unfolding found
+  found-hom zero Q = map-cond (map (map φ)) (zeros O (getD Q 0 [])) _ _ ∙ simp (zeros-hom O O′ φ H, ← List·getD-map (map φ) Q 0 [])
+  found-hom (suc k) Q = map-flatMap φ (map φ) _ _ (λ g. turn g (found-hom k (next O g Q))) symbols ∙ ap (flatMap _) (H .symbols)
+    where
+      Q′ : List (List (O′ .Symbol))
+      Q′ = map (map φ) Q
+
+      turn : (g : Symbol) → map (map φ) (found O k (next O g Q)) ≡ found O′ k (map (map φ) (next O g Q)) →
+          map (map φ) (cond (follows O Q g) (map (_∷_ g) (found O k (next O g Q))) []) ≡ cond (follows O′ Q′ (φ g)) (map (_∷_ (φ g)) (found O′ k (next O′ (φ g) Q′))) []
+      turn g ih =
+          map-cond (map (map φ)) (follows O Q g) _ _
+          ∙ simp (follows-hom O O′ φ H, map-square (_∷_ g) (map φ) (map φ) (_∷_ (φ g)) (λ f. refl) (found O k (next O g Q)), ih, stripped-hom O O′ φ H, step-hom O O′ φ H)
+
+  pub tried-hom : (k : ℕ) (Q : List (List Symbol)) → tried O k Q ≡ tried O′ k (map (map φ) Q)
+  unfolding tried
+  tried-hom zero Q = refl
+  tried-hom (suc k) Q = simp (tried-hom k, stripped-hom O O′ φ H, step-hom O O′ φ H, follows-hom O O′ φ H, ← H .symbols, sum-map φ)

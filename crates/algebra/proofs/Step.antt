@@ -2,7 +2,7 @@
 use mathlib.Core.Path.{_≡_, refl, sym, _∙_, ap, ap₂, fun-ext}
 use mathlib.Core.List.{List, [], _∷_, map}
 use mathlib.Core.Logic.{_↔_, by-cases}
-use Prim.Native.Nat.{ℕ, zero, suc, _<_, _≤_, _+_, _-_, _*_}
+use Prim.Native.Nat.{ℕ, zero, suc, _<_, _≤_, _+_, _-_}
 use native.Mathlib.Nat.{add-zero, add-suc, sub-self, mul-suc, mul-le-mul-right}
 use native.Mathlib.Omega.{arith}
 use native.Mathlib.Decide.{decLt}
@@ -10,10 +10,10 @@ use Rattle.rules.specs.Field.{Ops}
 use Rattle.rules.specs.Laws.{Laws}
 use Rattle.rules.specs.Code.{eval}
 use Rattle.rules.specs.Search.{merge, scale, firsts, step, along}
-use Rattle.algebra.specs.Poly.{Seq, Short, Zero, coef, taylor, plus, stretch, shift, lone, near, act, horner, expand, entry}
+use Rattle.algebra.specs.Poly.{Short, Zero, coef, taylor, plus, stretch, shift, lone, near, act, horner, expand, entry}
 use Rattle.algebra.specs.Search.{cell, Within}
 use Rattle.algebra.proofs.Ring.{mul-nil, nil-add}
-use Rattle.algebra.proofs.Seq.{act-cons, act-linear, act-commutes, shift-linear, horner-map, horner-expand, expand-nil, expand-zero, expand-suc, plus-at, stretch-at, none-at, none-plus, shift-zero, shift-suc, shift-none, lone-nil, lone-zero, lone-suc, near-zero, near-suc}
+use Rattle.algebra.proofs.Seq.{act-cons, act-linear, act-commutes, shift-linear, horner-map, horner-expand, expand-zero, expand-suc, plus-at, stretch-at, none-at, none-plus, shift-zero, shift-suc, shift-none, lone-nil, lone-zero, lone-suc, near-zero, near-suc}
 use Rattle.algebra.proofs.Taylor.{eval-cons, taylor-nil, taylor-cons, taylor-zero, coef-nil, coef-cons, coef-suc, coef-sum, coef-scale, coef-product, zero-path, path-zero}
 use Rattle.algebra.proofs.Rows.{coef-first, cell-entry, cell-column, firsts-column}
 
