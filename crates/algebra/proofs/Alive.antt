@@ -2,6 +2,7 @@
 use mathlib.Core.Path.{_≡_, refl, sym, _∙_, ap, subst}
 use mathlib.Core.Bool.{Bool, true, false, cond, not, _&&_}
 use mathlib.Core.List.{List, [], _∷_, map, flatMap}
+use mathlib.Core.Logic.{by-cases}
 use Prim.Native.Nat.{ℕ, zero, suc, _<_, _≤_, _+_, _-_, _*_, _/_, _%_}
 use native.Mathlib.Nat.{zero-add, mod-lt, div-add-mod', div-lt-iff-lt-mul, mul-suc}
 use native.Mathlib.Omega.{arith}
@@ -12,8 +13,8 @@ use Rattle.rules.specs.Lists.{from, below, all, sum, distinct}
 use Rattle.rules.specs.Field.{Ops}
 use Rattle.rules.specs.Laws.{Laws}
 use Rattle.rules.specs.Code.{zeros, eval}
-use Rattle.rules.proofs.Tests.{both, either}
 use Rattle.rules.specs.Search.{rows, width, first, firsts, stripped, step, follows, alive, beginnings, roots}
+use Rattle.rules.proofs.Tests.{both, either}
 use Rattle.algebra.specs.Poly.{Seq, Val, Short, Zero, coef, taylor}
 use Rattle.algebra.specs.Points.{Away, Distinct, Root, places, count, Roots}
 use Rattle.algebra.specs.Search.{cell, next, found, tried, Headed}
@@ -45,14 +46,10 @@ module _ (O : Ops) (L : Laws O) where
 
   -- a coefficient that is not zero is divided down to the first column, or leaves another there
   stripped-live : (Q : List (List Symbol)) (t i : ℕ) → ¬ (cell O Q t i ≡ nil) → ¬ Zero O (firsts O (stripped O Q))
-  stripped-live Q t i n z = go (decLt i (width Q))
-    where
-      go : Dec (i < width Q) → ⊥
-      go (yes l) =
-          let r = stripped-is O L Q in
-          r .stop (omega (arith, stripped-kept O L _ _ _ r t i n))
-          (λ u. ap (cell O Q u) (sym (zero-add (r .v))) ∙ sym (r .moved u 0) ∙ sym (cell-firsts O L _ u) ∙ z u)
-      go (no l) = n (cell-width O L Q t i (omega arith))
+  stripped-live Q t i n z = by-cases (decLt i (width Q))
+      (λ l. let r = stripped-is O L Q in
+      r .stop (omega (arith, stripped-kept O L _ _ _ r t i n)) (λ u. ap (cell O Q u) (sym (zero-add (r .v))) ∙ sym (r .moved u 0) ∙ sym (cell-firsts O L _ u) ∙ z u))
+      (λ l. n (cell-width O L Q t i (omega arith)))
 
   stripped-short : (Q : List (List Symbol)) (m : ℕ) → ((t i : ℕ) → i < t → cell O Q t i ≡ nil) → ¬ (cell O Q m m ≡ nil) →
       Short O (suc m) (coef O (firsts O (stripped O Q)))
@@ -94,11 +91,9 @@ module _ (O : Ops) (L : Laws O) where
   mult-low h g = order-is (length h) (taylor O g h) .low
 
   mult-hit : (h : List Symbol) → ¬ Zero O h → (g : Symbol) → ¬ (taylor O g h (mult h g) ≡ nil)
-  mult-hit h n g = go (decLe (length h) (mult h g))
-    where
-      go : Dec (length h ≤ mult h g) → ¬ (taylor O g h (mult h g) ≡ nil)
-      go (yes l) = absurd (n (root-count O L h (record { place = g; times = mult h g } ∷ []) (tt, tt) (mult-low h g, tt) (omega arith)))
-      go (no l) = unfold mult in order-is (length h) (taylor O g h) .hit (omega arith)
+  mult-hit h n g = by-cases (decLe (length h) (mult h g))
+      (λ l. absurd (n (root-count O L h (record { place = g; times = mult h g } ∷ []) (tt, tt) (mult-low h g, tt) (omega arith))))
+      (λ l. unfold mult in order-is (length h) (taylor O g h) .hit (omega arith))
 
   mult-pos : (h : List Symbol) → ¬ Zero O h → (g : Symbol) → eval O h g ≡ nil → 1 ≤ mult h g
   mult-pos h n g e = go (mult h g) (mult-hit h n g)
@@ -120,7 +115,8 @@ module _ (O : Ops) (L : Laws O) where
   -- the multiplicities of all symbols add up to the degree at the most
   mult-sum : (h : List Symbol) (d : ℕ) → ¬ Zero O h → Short O (suc d) (coef O h) → sum (mult h) symbols ≤ d
   unfolding sum
-  mult-sum h d n k = go (decLe (sum (mult h) symbols) d)
+  mult-sum h d n k = by-cases (decLe (sum (mult h) symbols) d) (λ l. l)
+      (λ l. absurd (n (root-count-short O L (suc d) h (repeated symbols) k (rw (same-places symbols) (apart symbols (L .once))) (each symbols) (omega (arith, same-count symbols)))))
     where
       repeated : List Symbol → List (Root O)
       repeated [] = []
@@ -137,11 +133,6 @@ module _ (O : Ops) (L : Laws O) where
       each : (ts : List Symbol) → Roots O h (repeated ts)
       each [] = tt
       each (g ∷ ts) = (mult-low h g, each ts)
-
-      go : Dec (sum (mult h) symbols ≤ d) → sum (mult h) symbols ≤ d
-      go (yes l) = l
-      go (no l) =
-          absurd (n (root-count-short O L (suc d) h (repeated symbols) k (rw (same-places symbols) (apart symbols (L .once))) (each symbols) (omega (arith, same-count symbols))))
 
   pub next-headed : (g : Symbol) (Q : List (List Symbol)) → ¬ Zero O (firsts O Q) → Headed O (mult (firsts O Q) g) (next O g Q)
   next-headed g Q n =

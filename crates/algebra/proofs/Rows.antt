@@ -12,8 +12,8 @@ use Rattle.rules.specs.Lists.{all}
 use Rattle.rules.specs.Field.{Ops}
 use Rattle.rules.specs.Laws.{Laws}
 use Rattle.rules.specs.Code.{zeros, eval}
-use Rattle.rules.proofs.Tests.{both, and}
 use Rattle.rules.specs.Search.{rows, width, rest, first, firsts, follows}
+use Rattle.rules.proofs.Tests.{both, and}
 use Rattle.algebra.specs.Poly.{Zero, coef, entry}
 use Rattle.algebra.specs.Search.{cell}
 use Rattle.algebra.proofs.Ring.{same-if}

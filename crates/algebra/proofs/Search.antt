@@ -12,8 +12,8 @@ use Rattle.rules.specs.Lists.{from, below, keep, sum}
 use Rattle.rules.specs.Field.{Ops}
 use Rattle.rules.specs.Laws.{Laws}
 use Rattle.rules.specs.Code.{zeros, messages}
-use Rattle.rules.proofs.Tests.{either, same-test}
 use Rattle.rules.specs.Search.{merge, firsts, stripped, step, follows, alive, beginnings, product, along, roots}
+use Rattle.rules.proofs.Tests.{either, same-test}
 use Rattle.algebra.specs.Poly.{Zero}
 use Rattle.algebra.specs.Search.{cell, next, found, tried}
 use Rattle.algebra.specs.Hom.{Hom}

@@ -11,8 +11,8 @@ use lib.ListN.{length, length-map}
 use Rattle.rules.specs.Field.{Ops}
 use Rattle.rules.specs.Laws.{Laws}
 use Rattle.rules.specs.Code.{zeros}
-use Rattle.rules.proofs.Tests.{either}
 use Rattle.rules.specs.Search.{width, rest, firsts, strip, stripped, along}
+use Rattle.rules.proofs.Tests.{either}
 use Rattle.algebra.specs.Poly.{Zero, coef, shift}
 use Rattle.algebra.specs.Search.{cell, Stripped, Within}
 use Rattle.algebra.proofs.Seq.{shift-zero, shift-suc}
