@@ -17,7 +17,7 @@ use Rattle.rules.proofs.Tests.{either, same-test}
 use Rattle.algebra.specs.Poly.{Zero}
 use Rattle.algebra.specs.Search.{cell, next, found, tried}
 use Rattle.algebra.specs.Hom.{Hom}
-use Rattle.algebra.proofs.Lists.{sum-map, map-cond, map-square, map-flatMap}
+use Rattle.algebra.proofs.Lists.{sum-map, map-cond, map-keep, map-square, map-flatMap}
 use Rattle.algebra.proofs.Bridge.{zeros-hom, stripped-hom, step-hom, follows-hom}
 use Rattle.algebra.proofs.Taylor.{taylor-eval}
 use Rattle.algebra.proofs.Rows.{zeros-zero, cell-firsts, follows-eval}
@@ -37,15 +37,6 @@ keep-flatMap : {A B : Type 0} (test : B → Bool) (f : A → List B) (xs : List 
 unfolding keep flatMap
 keep-flatMap test f [] = refl
 keep-flatMap test f (x ∷ xs) = keep-append test (f x) (flatMap f xs) ∙ ap (_++_ (keep test (f x))) (keep-flatMap test f xs)
-
-keep-map : {A B : Type 0} (test : B → Bool) (f : A → B) (xs : List A) → keep test (map f xs) ≡ map f (keep (λ x. test (f x)) xs)
-unfolding keep
-keep-map test f [] = refl
-keep-map test f (x ∷ xs) = rw (keep-map test f xs) (go (test (f x)))
-  where
-    go : (b : Bool) → cond b (f x ∷ map f (keep (λ x. test (f x)) xs)) (map f (keep (λ x. test (f x)) xs)) ≡ map f (cond b (x ∷ keep (λ x. test (f x)) xs) (keep (λ x. test (f x)) xs))
-    go true = refl
-    go false = refl
 
 keep-none : {A : Type 0} (test : A → Bool) → ((x : A) → T (test x) → ⊥) → (xs : List A) → keep test xs ≡ []
 unfolding keep
@@ -120,10 +111,11 @@ module _ (O : Ops) (L : Laws O) where
 
       turn : (g : Symbol) → found O k (next O g S) ≡ roots O k (step O g S) →
           cond (follows O S g) (map (_∷_ g) (found O k (next O g S))) [] ≡ keep (λ f. zeros O (along O Q f)) (map (_∷_ g) (messages O k))
-      turn g ih = either (λ fs. fs ≡ keep (λ f. zeros O (along O Q f)) (map (_∷_ g) (messages O k))) _ _ (follows O S g)
-          (λ t. ap (map (_∷_ g)) (ih ∙ ap (λ test. keep test (messages O k)) (fun-ext (λ f. sym (stripped-test Q (g ∷ f) ∙ step-test g f S)))) ∙ sym (keep-map _ _ _))
-          (λ t. sym (keep-map _ _ (messages O k) ∙ ap (map (_∷_ g)) (keep-none _ (λ f z.
-          T-not (follows O S g) t (follows-eval O L S g .1 (sym (along-first O L S g f) ∙ stripped-roots O L Q (g ∷ f) .0 (zeros-zero O L _ .0 z) zero))) (messages O k))))
+      turn g ih =
+          let kept = map-keep (_∷_ g) (λ f. zeros O (along O (step O g S) f)) (λ f. zeros O (along O Q f)) (λ f. sym (stripped-test Q (g ∷ f) ∙ step-test g f S)) (messages O k) in
+          either (λ fs. fs ≡ keep (λ f. zeros O (along O Q f)) (map (_∷_ g) (messages O k))) _ _ (follows O S g) (λ t. ap (map (_∷_ g)) ih ∙ kept)
+          (λ t. ap (map (_∷_ g)) (sym (keep-none _ (λ f z. T-not (follows O S g) t (follows-eval O L S g .1
+          (sym (along-first O L S g f) ∙ ap (λ s. s zero) (sym (along-step O L g f S)) ∙ zeros-zero O L _ .0 z zero))) (messages O k))) ∙ kept)
 
   pub tried-alive : (k : ℕ) (Q : List (List Symbol)) → tried O k Q ≡ sum (λ l. alive O l Q) (below (suc k))
   unfolding tried alive
