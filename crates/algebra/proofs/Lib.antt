@@ -19,3 +19,9 @@ pub mod Least
 pub mod Solve
 pub mod Exists
 pub mod Flat
+pub mod Rows
+pub mod Step
+pub mod Strip
+pub mod Search
+pub mod Slot
+pub mod Alive

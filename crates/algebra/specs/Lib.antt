@@ -3,3 +3,4 @@ pub mod Points
 pub mod Hom
 pub mod Conditions
 pub mod Space
+pub mod Search
