@@ -19,7 +19,8 @@ use Rattle.algebra.specs.Space.{space, Curve, Same, Below, Top, Monic, A
 use Rattle.algebra.proofs.Rank.{rank-eq}
 use Rattle.algebra.proofs.Basis.{monic-same, meets-same}
 use Rattle.algebra.proofs.Least.{greatest}
-use Rattle.algebra.proofs.Complete.{zero-zeros, weighted-at}
+use Rattle.algebra.proofs.Rows.{zeros-zero}
+use Rattle.algebra.proofs.Complete.{weighted-at}
 use Rattle.algebra.proofs.Passes.{passes-says, passes-found}
 
 -- every place of a flat curve is that of a term
@@ -49,7 +50,7 @@ module _ (O : Ops) (L : Laws O) (k W ℓ : ℕ) (zs : List (Triple (O .Symbol)))
           (λ n. List·getD-eq-default Q nil (omega arith))
 
       go : Below O (space k W ℓ) (coefficient O W Q) 0 ⊎ ((i : ℕ) × (t : ℕ) × Top O (space k W ℓ) (coefficient O W Q) i t) → (i : ℕ) × (t : ℕ) × Top O (space k W ℓ) (coefficient O W Q) i t
-      go (inl b) = absurd (T-not (zeros O Q) (passes-says O L k W ℓ zs Q p .some) (zero-zeros O L Q (zero-all b)))
+      go (inl b) = absurd (T-not (zeros O Q) (passes-says O L k W ℓ zs Q p .some) (zeros-zero O L Q .1 (zero-all b)))
       go (inr T) = T
 
   -- curves that pass and agree in the space are equal

@@ -1,34 +1,29 @@
 -- A flat curve passes exactly when it is not zero, its terms are those of the space, and it meets the conditions of the triples.
-use mathlib.Core.Path.{_≡_, refl, sym, _∙_, ap}
+use mathlib.Core.Path.{_≡_, sym, _∙_, ap}
 use mathlib.Core.Bool.{Bool, true, false, not, _&&_, _||_}
-use mathlib.Core.List.{List, [], _∷_, List·Memᴰ}
-use Prim.Native.Nat.{ℕ, zero, suc, _<_, _≤_, _+_, _*_, _-_}
+use mathlib.Core.List.{List, List·Memᴰ}
+use Prim.Native.Nat.{ℕ, _<_, _≤_, _+_, _*_, _-_}
 use native.Mathlib.Omega.{arith}
 use native.Mathlib.Decide.{decLt}
 use lib.Dec.{T, not-T, ltb, lt→ltb}
-use lib.ListN.{getD}
 use Rattle.rules.specs.Lists.{below, all}
 use Rattle.rules.specs.Field.{Ops}
 use Rattle.rules.specs.Laws.{Laws}
 use Rattle.rules.specs.Code.{Triple, zeros}
 use Rattle.rules.specs.Curve.{coefficient, weighted, hasse, through, passes}
 use Rattle.rules.proofs.Tests.{both, and, all-at, all-of, below-at, below-of}
+use Rattle.algebra.specs.Poly.{coef}
 use Rattle.algebra.specs.Conditions.{Condition, condition, conditions}
 use Rattle.algebra.specs.Space.{space, value, Meets, Monic, Passing}
 use Rattle.algebra.proofs.Ring.{mul-nil, same-if}
 use Rattle.algebra.proofs.Total.{total-ext, total-cut}
 use Rattle.algebra.proofs.Weight.{hasse-weights}
+use Rattle.algebra.proofs.Rows.{zeros-zero}
 use Rattle.algebra.proofs.Complete.{weighted-at}
 use Rattle.algebra.proofs.Plan.{condition-mem, mem-condition}
 
 module _ (O : Ops) (L : Laws O) where
   open Ops O using (Symbol, nil, same, mul)
-
-  zeros-nil : (Q : List Symbol) → T (zeros O Q) → (n : ℕ) → getD Q n nil ≡ nil
-  unfolding zeros all
-  zeros-nil [] z n = refl
-  zeros-nil (c ∷ Q) z zero = L .same-eq c nil (both (O .same c nil) (zeros O Q) z .0)
-  zeros-nil (c ∷ Q) z (suc n) = zeros-nil Q (both (O .same c nil) (zeros O Q) z .1) n
 
   module _ (W ℓ : ℕ) (Q : List Symbol) where
     through-at : (z : Triple Symbol) → T (through O W ℓ Q z) → (a b : ℕ) → a + b < z .times → hasse O W ℓ Q (z .point) (z .symbol) a b ≡ nil
@@ -93,9 +88,9 @@ module _ (O : Ops) (L : Laws O) where
     -- a curve found passes: it leads with one
     pub passes-found : {i t : ℕ} → ((t i : ℕ) → t < ℓ + 1 → i < W → W ≤ i + t * (k - 1) → coefficient O W Q i t ≡ nil) →
         Monic O (space k W ℓ) (coefficient O W Q) i t → Meets O (space k W ℓ) (conditions zs) (coefficient O W Q) → T (passes O k W ℓ zs Q)
-    unfolding coefficient
+    unfolding coefficient coef
     passes-found {i} {t} h M s = passes-if (record {
-      some = not-T (zeros O Q) (λ z. L .one-nil (sym (M .lead) ∙ zeros-nil Q z (t * W + i)));
+      some = not-T (zeros O Q) (λ z. L .one-nil (sym (M .lead) ∙ zeros-zero O L Q .0 z (t * W + i)));
       within = weighted-if W ℓ Q k h;
       meets = s;
     })
