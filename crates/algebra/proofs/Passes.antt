@@ -6,12 +6,12 @@ use Prim.Native.Nat.{ℕ, _<_, _≤_, _+_, _*_, _-_}
 use native.Mathlib.Omega.{arith}
 use native.Mathlib.Decide.{decLt}
 use lib.Dec.{T, not-T, ltb, lt→ltb}
-use Rattle.rules.specs.Lists.{below, all}
+use Rattle.rules.specs.Lists.{all}
 use Rattle.rules.specs.Field.{Ops}
 use Rattle.rules.specs.Laws.{Laws}
 use Rattle.rules.specs.Code.{Triple, zeros}
 use Rattle.rules.specs.Curve.{coefficient, weighted, hasse, through, passes}
-use Rattle.rules.proofs.Tests.{both, and, all-at, all-of, below-at, below-of}
+use Rattle.rules.proofs.Tests.{both, and, all-at, all-of, below-of}
 use Rattle.algebra.specs.Poly.{coef}
 use Rattle.algebra.specs.Conditions.{Condition, condition, conditions}
 use Rattle.algebra.specs.Space.{space, value, Meets, Monic, Passing}
@@ -19,18 +19,13 @@ use Rattle.algebra.proofs.Ring.{mul-nil, same-if}
 use Rattle.algebra.proofs.Total.{total-ext, total-cut}
 use Rattle.algebra.proofs.Weight.{hasse-weights}
 use Rattle.algebra.proofs.Rows.{zeros-zero}
-use Rattle.algebra.proofs.Complete.{weighted-at}
+use Rattle.algebra.proofs.Complete.{weighted-at, through-hasse}
 use Rattle.algebra.proofs.Plan.{condition-mem, mem-condition}
 
 module _ (O : Ops) (L : Laws O) where
   open Ops O using (Symbol, nil, same, mul)
 
   module _ (W ℓ : ℕ) (Q : List Symbol) where
-    through-at : (z : Triple Symbol) → T (through O W ℓ Q z) → (a b : ℕ) → a + b < z .times → hasse O W ℓ Q (z .point) (z .symbol) a b ≡ nil
-    unfolding through
-    through-at z t a b h =
-        L .same-eq _ nil (below-at _ (z .times - a) b (below-at (λ a. all (λ b. same (hasse O W ℓ Q (z .point) (z .symbol) a b) nil) (below (z .times - a))) (z .times) a t (omega arith)) (omega arith))
-
     through-if : (z : Triple Symbol) → ((a b : ℕ) → a + b < z .times → hasse O W ℓ Q (z .point) (z .symbol) a b ≡ nil) → T (through O W ℓ Q z)
     unfolding through
     through-if z h = below-of _ (z .times) (λ a l. below-of _ (z .times - a) (λ b m. same-if O L _ nil (h a b (omega arith))))
@@ -65,7 +60,7 @@ module _ (O : Ops) (L : Laws O) where
         meets-through zs t = record { each = λ c m. go c (mem-condition zs m) }
           where
             go : (c : Condition Symbol) → (z : Triple Symbol) × List·Memᴰ z zs × (a : ℕ) × (b : ℕ) × (a + b < z .times) × (c ≡ condition z b a) → value O (space k W ℓ) c (coefficient O W Q) ≡ nil
-            go c (z, m, a, b, l, e) = ap (λ c. value O (space k W ℓ) c (coefficient O W Q)) e ∙ sym (hasse-value (condition z b a)) ∙ through-at z (all-at (through O W ℓ Q) z zs t m) a b l
+            go c (z, m, a, b, l, e) = ap (λ c. value O (space k W ℓ) c (coefficient O W Q)) e ∙ sym (hasse-value (condition z b a)) ∙ through-hasse O L W ℓ Q z (all-at (through O W ℓ Q) z zs t m) a b l
 
         through-meets : (zs : List (Triple Symbol)) → Meets O (space k W ℓ) (conditions zs) (coefficient O W Q) → T (all (through O W ℓ Q) zs)
         unfolding condition
