@@ -9,8 +9,8 @@ use lib.ListN.{length, length-append}
 use Rattle.rules.specs.Lists.{from, below, sum}
 use Rattle.rules.specs.Field.{Ops}
 use Rattle.rules.specs.Laws.{Laws}
-use Rattle.algebra.specs.Conditions.{Condition}
-use Rattle.algebra.specs.Space.{Space, In, rank, Curve, mix, shift, Same, Below, Room, value, Meets, Ready, Ordered, Monic, Basis, Pivot}
+use Rattle.algebra.specs.Conditions.{Condition, Ready, Ordered}
+use Rattle.algebra.specs.Space.{Space, In, rank, Curve, mix, shift, Same, Below, Room, value, Meets, Monic, Basis, Pivot}
 use Rattle.algebra.proofs.Ring.{nil-add, mul-nil, nil-mul, no-zero-divisor, decide}
 use Rattle.algebra.proofs.Rank.{rank-suc, rank-lt, rank-eq}
 use Rattle.algebra.proofs.Conditions.{value-ext, value-lin, value-gain}
@@ -86,16 +86,16 @@ module _ (O : Ops) (L : Laws O) (S : Space) where
     meets-same e s = record { each = λ k m. value-ext O L S k _ _ e ∙ s .each k m }
 
     -- conditions in order that Q meets x·Q meets too
-    pub meets-shift : {Q : Curve O} → Ordered O S cs → Room O S Q → Meets O S cs Q → Meets O S cs (shift O Q)
+    pub meets-shift : {Q : Curve O} → Ordered cs → Room O S Q → Meets O S cs Q → Meets O S cs (shift O Q)
     meets-shift {Q} o h s = record {
       each = λ k m.
           sym (L .add-nil _) ∙ ap (add _) (sym (ap (mul _) (s .each k m) ∙ mul-nil O L _))
           ∙ sym (value-lin O L S k (shift O Q) _ Q) ∙ value-gain O L S cs k Q (o k m) h s;
     }
 
-    pub order-snoc : (c : Condition Symbol) → Ordered O S cs → Ready O S cs c → Ordered O S (cs ++ (c ∷ []))
+    pub order-snoc : (c : Condition Symbol) → Ordered cs → Ready cs c → Ordered (cs ++ (c ∷ []))
     order-snoc c o r k m a e =
-        Memᴰ·append-left (c ∷ []) (⊎-elim (λ n. o k n a e) (λ n. subst (Ready O S cs) (sym (List·Memᴰ·eq-of-singleton n)) r a e) (List·Memᴰ·append-cases cs m))
+        Memᴰ·append-left (c ∷ []) (⊎-elim (λ n. o k n a e) (λ n. subst (Ready cs) (sym (List·Memᴰ·eq-of-singleton n)) r a e) (List·Memᴰ·append-cases cs m))
 
     -- the curves matter only in the space, the leads only up to the top
     pub basis-same : {d d′ : ℕ → ℕ} {g g′ : ℕ → Curve O} → Basis O S cs d g → ((j : ℕ) → j ≤ S .top → d′ j ≡ d j) →
@@ -123,7 +123,7 @@ module _ (O : Ops) (L : Laws O) (S : Space) where
 
   module _ {cs : List (Condition Symbol)} {d : ℕ → ℕ} {g : ℕ → Curve O} (B : Basis O S cs d g) where
     -- a condition that every alive curve meets changes nothing
-    pub quiet : (c : Condition Symbol) → Ready O S cs c → ((j : ℕ) → In S (d j) j → value O S c (g j) ≡ nil) → Basis O S (cs ++ (c ∷ [])) d g
+    pub quiet : (c : Condition Symbol) → Ready cs c → ((j : ℕ) → In S (d j) j → value O S c (g j) ≡ nil) → Basis O S (cs ++ (c ∷ [])) d g
     quiet c r h = record {
       order = order-snoc c (B .order) r;
       fit = B .fit;
@@ -137,7 +137,7 @@ module _ (O : Ops) (L : Laws O) (S : Space) where
     unfolding below
     end l = let e = sum-less d (λ t. S .wide - S .off t) 0 (S .top + 1) (omega (arith, B .size)) in (e .0, record { column = omega (arith, e .1); inside = omega (arith, e .2) })
 
-    module _ {c : Condition Symbol} {p : ℕ} {d′ : ℕ → ℕ} {g′ : ℕ → Curve O} (r : Ready O S cs c) (P : Pivot O S c p d g d′ g′) where
+    module _ {c : Condition Symbol} {p : ℕ} {d′ : ℕ → ℕ} {g′ : ℕ → Curve O} (r : Ready cs c) (P : Pivot O S c p d g d′ g′) where
       M : Monic O S (g p) (d p) p
       M = B .monic p (P .alive)
 

@@ -7,8 +7,8 @@ use Rattle.rules.specs.Field.{Ops}
 use Rattle.rules.specs.Laws.{Laws}
 use Rattle.rules.specs.Curve.{total}
 use Rattle.algebra.specs.Poly.{neg}
-use Rattle.algebra.specs.Conditions.{Condition, weight}
-use Rattle.algebra.specs.Space.{Space, Curve, mix, shift, Same, Room, value, Meets, Ready, raised}
+use Rattle.algebra.specs.Conditions.{Condition, weight, Ready}
+use Rattle.algebra.specs.Space.{Space, Curve, mix, shift, Same, Room, value, Meets, raised}
 use Rattle.algebra.proofs.Ring.{mul-left-comm, nil-add, add-mul, mul-nil, nil-mul, add-neg}
 use Rattle.algebra.proofs.Total.{total-ext, total-nil, total-front, total-mul, total-add}
 use Rattle.algebra.proofs.Weight.{weight-up, weight-next}
@@ -75,15 +75,15 @@ module _ (O : Ops) (L : Laws O) where
     unfolding value form
     value-lin c = form-lin (weight O (c .point) (c .a)) (weight O (c .symbol) (c .b))
 
-    pub value-gain : (cs : List (Condition Symbol)) (c : Condition Symbol) (Q : Curve O) → Ready O S cs c → Room O S Q → Meets O S cs Q →
-        value O S c (raised O S c Q) ≡ nil
+    pub value-gain : (cs : List (Condition Symbol)) (c : Condition Symbol) (Q : Curve O) → Ready cs c → Room O S Q → Meets O S cs Q →
+        value O S c (raised O c Q) ≡ nil
     unfolding value form
     value-gain cs c Q r h s = go (c .a) refl
       where
         α : Symbol
         α = c .point
 
-        go : (a : ℕ) → c .a ≡ a → form (weight O α (c .a)) (weight O (c .symbol) (c .b)) (raised O S c Q) ≡ nil
+        go : (a : ℕ) → c .a ≡ a → form (weight O α (c .a)) (weight O (c .symbol) (c .b)) (raised O c Q) ≡ nil
         go zero e =
             rw e (form-gain α (weight O α 0) (λ _. nil) _ Q (λ i. weight-up O L α i ∙ sym (L .add-nil _)) h
             (total-nil O L _ _ (λ t l. ap (mul _) (total-nil O L _ _ (λ i m. nil-mul O L _)) ∙ mul-nil O L _)))

@@ -8,8 +8,8 @@ use native.Mathlib.Decide.{decLt, ℕ-discrete}
 use Rattle.rules.specs.Field.{Ops}
 use Rattle.rules.specs.Laws.{Laws}
 use Rattle.algebra.specs.Poly.{neg}
-use Rattle.algebra.specs.Conditions.{Condition}
-use Rattle.algebra.specs.Space.{Space, In, rank, Curve, mix, shift, Same, Below, value, Meets, Ready, Ordered, Top, Monic, Basis, Least, Pivot, Best, Answer}
+use Rattle.algebra.specs.Conditions.{Condition, Ready, Ordered}
+use Rattle.algebra.specs.Space.{Space, In, rank, Curve, mix, shift, Same, Below, value, Meets, Top, Monic, Basis, Least, Pivot, Best, Answer}
 use Rattle.algebra.proofs.Ring.{nil-add, add-mul, mul-nil, nil-mul, one-mul, neg-add, add-neg, cancel, no-zero-divisor, decide}
 use Rattle.algebra.proofs.Rank.{rank-lt, rank-scan, rank-eq, rank-bound, rank-find}
 use Rattle.algebra.proofs.Conditions.{value-ext, value-lin}
@@ -88,7 +88,7 @@ module _ (O : Ops) (L : Laws O) (S : Space) where
   least-start Q a j s T = omega arith
 
   -- x^e·Q, by where its leading term is
-  climb : {cs : List (Condition Symbol)} {Q : Curve O} {a j : ℕ} → Ordered O S cs → Monic O S Q a j → Meets O S cs Q → (i : ℕ) → a ≤ i → In S i j →
+  climb : {cs : List (Condition Symbol)} {Q : Curve O} {a j : ℕ} → Ordered cs → Monic O S Q a j → Meets O S cs Q → (i : ℕ) → a ≤ i → In S i j →
       (h : Curve O) × Monic O S h i j × Meets O S cs h
   climb {Q = Q} {a = a} o M s zero l w = let z : a ≡ 0 = omega arith in (Q, rw z at M, s)
   climb {cs} {Q} {a} {j} o M s (suc i) l w = go (ℕ-discrete a (suc i)) (λ l′. climb o M s i l′ (omega arith))
@@ -103,7 +103,7 @@ module _ (O : Ops) (L : Laws O) (S : Space) where
     pub least-quiet : (c : Condition Symbol) → Least O S (cs ++ (c ∷ [])) d
     least-quiet c Q a j s T = H Q a j (front cs c s) T
 
-    module _ {g : ℕ → Curve O} (B : Basis O S cs d g) {c : Condition Symbol} {p : ℕ} {d′ : ℕ → ℕ} {g′ : ℕ → Curve O} (r : Ready O S cs c) (P : Pivot O S c p d g d′ g′) where
+    module _ {g : ℕ → Curve O} (B : Basis O S cs d g) {c : Condition Symbol} {p : ℕ} {d′ : ℕ → ℕ} {g′ : ℕ → Curve O} (r : Ready cs c) (P : Pivot O S c p d g d′ g′) where
       -- a curve below the pivot's leading term meets the new condition
       under : (r : ℕ) (Q : Curve O) → r ≤ rank S (d p) p → Meets O S cs Q → Below O S Q r → value O S c Q ≡ nil
       under zero Q l s b = value-nil c Q b
@@ -145,7 +145,7 @@ module _ (O : Ops) (L : Laws O) (S : Space) where
           go (yes e) (no f) = rw (e, P .grow) (omega (arith, low, ap d e))
           go (yes e) (yes f) = absurd (T .some (rw (e, f) (clash Q s (rw (e, f) at (T .rest)))))
 
-    module _ {g : ℕ → Curve O} (B : Basis O S cs d g) {j : ℕ} (T : Best O S d j) where
+    module _ {g : ℕ → Curve O} (B : Basis O S cs d g) {j : ℕ} (T : Best S d j) where
       -- the best curve's greatest term is least
       least : (Q : Curve O) (a t : ℕ) → Meets O S cs Q → Top O S Q a t → rank S (d j) j ≤ rank S a t
       least Q a t s U =

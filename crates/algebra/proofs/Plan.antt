@@ -8,11 +8,9 @@ use native.Mathlib.Nat.{suc-mul, mul-suc, mul-assoc, div-eq-of-eq-mul-left}
 use lib.ListN.{length, getD, take, length-append, length-map}
 use lib.Seq.{take-suc}
 use Rattle.rules.specs.Lists.{from, below, sum}
-use Rattle.rules.specs.Field.{Ops}
 use Rattle.rules.specs.Code.{Triple, triples}
 use Rattle.rules.proofs.Tests.{from-mem, mem-from}
-use Rattle.algebra.specs.Conditions.{Condition, condition, conditions-along, conditions-at, conditions}
-use Rattle.algebra.specs.Space.{Space, Ready}
+use Rattle.algebra.specs.Conditions.{Condition, condition, conditions-along, conditions-at, conditions, Ready}
 use Rattle.algebra.proofs.Lists.{map-append}
 
 -- lists over the numbers below n grow at their end
@@ -132,8 +130,7 @@ module _ {A : Type 0} (zs : List (Triple A)) where
       let v = mem-from (t .0) 0 (z .times - s .0) (t .1) in
       (z, r .1, t .0, s .0, omega arith, t .2)
 
-module _ (O : Ops) (S : Space) where
-  -- (a − 1, b) comes right before (a, b)
-  pub ready : (cs : List (Condition (O .Symbol))) (z : Triple (O .Symbol)) (b a : ℕ) → Ready O S (cs ++ map (condition z b) (below a)) (condition z b a)
-  unfolding condition below
-  ready cs z b a a′ e = Memᴰ·append-right cs (map-mem (condition z b) (from-mem a′ 0 a (omega arith) (omega arith)))
+-- (a − 1, b) comes right before (a, b)
+pub ready : {A : Type 0} (cs : List (Condition A)) (z : Triple A) (b a : ℕ) → Ready (cs ++ map (condition z b) (below a)) (condition z b a)
+unfolding condition below
+ready cs z b a a′ e = Memᴰ·append-right cs (map-mem (condition z b) (from-mem a′ 0 a (omega arith) (omega arith)))

@@ -11,8 +11,8 @@ use Rattle.rules.specs.Field.{Ops, inverse}
 use Rattle.rules.specs.Laws.{Laws}
 use Rattle.rules.specs.Code.{Triple}
 use Rattle.algebra.specs.Poly.{neg}
-use Rattle.algebra.specs.Conditions.{Condition, condition, conditions-along, conditions-at, conditions}
-use Rattle.algebra.specs.Space.{Space, In, rank, Curve, mix, value, Ready, Basis, Least, Pivot, raised, Best, Answer}
+use Rattle.algebra.specs.Conditions.{Condition, condition, conditions-along, conditions-at, conditions, Ready}
+use Rattle.algebra.specs.Space.{Space, In, rank, Curve, mix, value, Basis, Least, Pivot, raised, Best, Answer}
 use Rattle.algebra.proofs.Ring.{add-mul, nil-mul, add-neg, decide}
 use Rattle.algebra.proofs.Plan.{map-more, flat-more, ready}
 use Rattle.algebra.proofs.Basis.{start, quiet, step, end}
@@ -69,10 +69,10 @@ module _ (O : Ops) (L : Laws O) (S : Space) where
       go (yes a) (no b) = no (λ h. b (h .inside))
 
   -- where some curve is alive there is a best
-  best : (d : ℕ → ℕ) (k : ℕ) → In S (d k) k → (j : ℕ) × Best O S d j
+  best : (d : ℕ → ℕ) (k : ℕ) → In S (d k) k → (j : ℕ) × Best S d j
   best d k a = go (argmin (λ i. In S (d i) i) (alive? d) (λ i. rank S (d i) i) (suc (S .top)))
     where
-      go : ((i : ℕ) → i < suc (S .top) → ¬ (In S (d i) i)) ⊎ ((j : ℕ) × Min (λ i. In S (d i) i) (alive? d) (λ i. rank S (d i) i) (suc (S .top)) j) → (j : ℕ) × Best O S d j
+      go : ((i : ℕ) → i < suc (S .top) → ¬ (In S (d i) i)) ⊎ ((j : ℕ) × Min (λ i. In S (d i) i) (alive? d) (λ i. rank S (d i) i) (suc (S .top)) j) → (j : ℕ) × Best S d j
       go (inl h) = absurd (h k (omega arith) a)
       go (inr (j, m)) = (j, record { alive = m .has; least = λ i b. m .least i (omega arith) b })
 
@@ -88,7 +88,7 @@ module _ (O : Ops) (L : Laws O) (S : Space) where
       let whole : x ≡ mul q y = sym (L .mul-assoc x _ y ∙ ap (mul x) (L .mul-comm _ y ∙ L .mul-inverse y h) ∙ L .mul-one x) in
       ap (λ z. add z (mul (neg O q) y)) whole ∙ sym (add-mul O L q (neg O q) y) ∙ ap (λ z. mul z y) (add-neg O L q) ∙ nil-mul O L y
 
-  next : {cs : List (Condition Symbol)} (c : Condition Symbol) → Ready O S cs c → State cs → State (cs ++ (c ∷ []))
+  next : {cs : List (Condition Symbol)} (c : Condition Symbol) → Ready cs c → State cs → State (cs ++ (c ∷ []))
   next {cs} c r s = go (argmin Off off? key (suc (S .top)))
     where
       d : ℕ → ℕ
@@ -126,7 +126,7 @@ module _ (O : Ops) (L : Laws O) (S : Space) where
           ratio j = neg O (mul (value O S c (g j)) (inverse O (value O S c (g p))))
 
           g′ : ℕ → Curve O
-          g′ j = choose (ℕ-discrete j p) (raised O S c (g p)) (mix O (g j) (ratio j) (g p))
+          g′ j = choose (ℕ-discrete j p) (raised O c (g p)) (mix O (g j) (ratio j) (g p))
 
           P : Pivot O S c p d g d′ g′
           P = record {
@@ -135,17 +135,17 @@ module _ (O : Ops) (L : Laws O) (S : Space) where
             first = λ j a z. m .least j (omega (arith, a .column)) (a, z);
             grow = choose-yes (ℕ-discrete p p) (suc (d p)) (d p) refl;
             stay = λ j l n. choose-no (ℕ-discrete j p) (suc (d p)) (d j) n;
-            raise = λ a i t h. ap (λ f. f i t) (choose-yes (ℕ-discrete p p) (raised O S c (g p)) (mix O (g p) (ratio p) (g p)) refl);
+            raise = λ a i t h. ap (λ f. f i t) (choose-yes (ℕ-discrete p p) (raised O c (g p)) (mix O (g p) (ratio p) (g p)) refl);
             ratio = ratio;
             clears = λ j a n. ratio-clears _ _ (m .has .1);
-            reduce = λ j a n i t h. ap (λ f. f i t) (choose-no (ℕ-discrete j p) (raised O S c (g p)) (mix O (g j) (ratio j) (g p)) n);
+            reduce = λ j a n i t h. ap (λ f. f i t) (choose-no (ℕ-discrete j p) (raised O c (g p)) (mix O (g j) (ratio j) (g p)) n);
           }
 
   -- the conditions in their order, through b and a of each triple
   along : (cs : List (Condition Symbol)) (z : Triple Symbol) (b n : ℕ) → State cs → State (cs ++ map (condition z b) (below n))
   unfolding below from
   along cs z b zero s = subst State (sym (append-nil cs)) s
-  along cs z b (suc n) s = subst State (sym (map-more cs (condition z b) n)) (next (condition z b n) (ready O S cs z b n) (along cs z b n s))
+  along cs z b (suc n) s = subst State (sym (map-more cs (condition z b) n)) (next (condition z b n) (ready cs z b n) (along cs z b n s))
 
   at : (cs : List (Condition Symbol)) (z : Triple Symbol) (n : ℕ) → State cs → State (cs ++ flatMap (conditions-along z) (below n))
   unfolding below from flatMap conditions-along

@@ -1,5 +1,6 @@
 -- The conditions that triples lay on a curve, in the order in which they are met, and the weights that they are computed with.
-use mathlib.Core.List.{List, map, flatMap}
+use mathlib.Core.Path.{_≡_}
+use mathlib.Core.List.{List, List·Memᴰ, map, flatMap}
 use Prim.Native.Nat.{ℕ, zero, suc, _-_}
 use Rattle.rules.specs.Lists.{below}
 use Rattle.rules.specs.Field.{Ops}
@@ -26,6 +27,13 @@ module _ {A : Type 0} where
 
   unfoldable pub conditions : List (Triple A) → List (Condition A)
   conditions zs = flatMap conditions-at zs
+
+  -- the condition before c, the same with a smaller by one, is among these
+  abbrev pub Ready : List (Condition A) → Condition A → Type 0
+  Ready cs c = (a : ℕ) → c .a ≡ suc a → List·Memᴰ (record { point = c .point; symbol = c .symbol; a = a; b = c .b }) cs
+
+  abbrev pub Ordered : List (Condition A) → Type 0
+  Ordered cs = (c : Condition A) → List·Memᴰ c cs → Ready cs c
 
 module _ (O : Ops) where
   open Ops O using (Symbol, nil, one, add, mul)

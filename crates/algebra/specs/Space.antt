@@ -10,7 +10,7 @@ use Rattle.rules.specs.Field.{Ops}
 use Rattle.rules.specs.Code.{Triple, zeros}
 use Rattle.rules.specs.Curve.{total, coefficient, weighted, passes}
 use Rattle.algebra.specs.Poly.{neg}
-use Rattle.algebra.specs.Conditions.{Condition, conditions, weight}
+use Rattle.algebra.specs.Conditions.{Condition, conditions, Ordered, weight}
 
 -- The terms x^i·y^t with t ≤ top and i + off t < wide.
 pub record Space : Type 0 where
@@ -30,6 +30,11 @@ space k W ℓ = record { top = ℓ; wide = W; off = λ t. t * (k - 1) }
 unfoldable pub rank : Space → ℕ → ℕ → ℕ
 rank S i t = (i + S .off t) * suc (S .top) + t
 
+-- of the curves whose leading terms x^(d j)·y^j are in the space, j has the least
+pub record Best (S : Space) (d : ℕ → ℕ) (j : ℕ) : Type 0 where
+  pub alive : In S (d j) j
+  pub least : (i : ℕ) → In S (d i) i → rank S (d j) j ≤ rank S (d i) i
+
 module _ (O : Ops) where
   open Ops O using (Symbol, nil, one, add, mul)
 
@@ -45,6 +50,10 @@ module _ (O : Ops) where
   abbrev pub shift : Curve → Curve
   shift Q zero t = nil
   shift Q (suc i) t = Q i t
+
+  -- (x − point)·Q
+  abbrev pub raised : Condition Symbol → Curve → Curve
+  raised c Q = mix (shift Q) (neg O (c .point)) Q
 
   module _ (S : Space) where
     -- equal at every term of the space
@@ -66,17 +75,6 @@ module _ (O : Ops) where
 
     pub record Meets (cs : List (Condition Symbol)) (Q : Curve) : Type 0 where
       pub each : (c : Condition Symbol) → List·Memᴰ c cs → value c Q ≡ nil
-
-    -- the condition before c, the same with a smaller by one, is among these
-    abbrev pub Ready : List (Condition Symbol) → Condition Symbol → Type 0
-    Ready cs c = (a : ℕ) → c .a ≡ suc a → List·Memᴰ (record { point = c .point; symbol = c .symbol; a = a; b = c .b }) cs
-
-    abbrev pub Ordered : List (Condition Symbol) → Type 0
-    Ordered cs = (c : Condition Symbol) → List·Memᴰ c cs → Ready cs c
-
-    -- (x − point)·Q
-    abbrev pub raised : Condition Symbol → Curve → Curve
-    raised c Q = mix (shift Q) (neg O (c .point)) Q
 
     -- the greatest term of Q is (a, j)
     pub record Top (Q : Curve) (a j : ℕ) : Type 0 where
@@ -113,11 +111,6 @@ module _ (O : Ops) where
       pub ratio : ℕ → Symbol
       pub clears : (j : ℕ) → In S (d j) j → ¬ (j ≡ p) → add (value c (g j)) (mul (ratio j) (value c (g p))) ≡ nil
       pub reduce : (j : ℕ) → In S (d j) j → ¬ (j ≡ p) → Same (g′ j) (mix (g j) (ratio j) (g p))
-
-    -- the alive curve with the least leading term
-    pub record Best (d : ℕ → ℕ) (j : ℕ) : Type 0 where
-      pub alive : In S (d j) j
-      pub least : (i : ℕ) → In S (d i) i → rank S (d j) j ≤ rank S (d i) i
 
     -- the least curve that meets the conditions, and the only one of its greatest term
     pub record Answer (cs : List (Condition Symbol)) (P : Curve) (a j : ℕ) : Type 0 where
