@@ -1,13 +1,14 @@
 -- Every accepted setting meets the bounds of Accepted. "n−τ ≥ k": otherwise ℓ < s, and the few rows add up to no more than C.
 use mathlib.Core.Path.{_≡_, sym}
 use Prim.Native.Nat.{ℕ, zero, suc, _+_, _-_, _*_, _/_, _≤_, _<_}
-use native.Mathlib.Nat.{mul-add, add-mul, mul-assoc, mul-le-mul, lt-of-not-le, div-lt-iff-lt-mul, le-div-iff-mul-le, div-mul-le-self, lt-div-mul-add}
+use native.Mathlib.Nat.{mul-add, add-mul, mul-assoc, lt-of-not-le, div-lt-iff-lt-mul, le-div-iff-mul-le, div-mul-le-self, lt-div-mul-add}
 use native.Mathlib.Omega.{arith}
 use native.Mathlib.Decide.{decLe}
 use Rattle.rules.specs.Lists.{from, below, sum}
 use Rattle.rules.specs.Setting.{Setting, W, ℓ, C, U, curve-length, R}
 use Rattle.rules.specs.Refusal.{setting-refusal}
 use Rattle.setting.specs.Accepted.{Passed, Accepted}
+use Rattle.setting.proofs.Arith.{product}
 use Rattle.setting.proofs.Tests.{passed}
 
 -- a property of the numbers below 4, by cases
@@ -28,9 +29,6 @@ few-rows a g n h m =
     (four _ (λ v. omega arith) (λ v. omega arith) (λ v. omega arith) (λ v. omega arith))
     (four _ (λ v. omega arith) (λ v. omega arith) (λ v. omega arith) (λ v. omega arith))
     (four _ (λ v. omega arith) (λ v. omega arith) (λ v. omega arith) (λ v. omega arith))
-
-product : (a b c d : ℕ) → a ≤ c → b ≤ d → a * b ≤ c * d
-product a b c d = mul-le-mul
 
 module _ (S : Setting) where
   open Setting S using (n, k, s, τ)

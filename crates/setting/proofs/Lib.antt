@@ -1,2 +1,6 @@
+pub mod Modulus
+pub mod Arith
 pub mod Tests
+pub mod Call
 pub mod Accepted
+pub mod Unique

@@ -1,8 +1,8 @@
 -- The tests of the setting call as facts about its numbers, and back: setting-refusal S is 0 exactly where Passed S.
-use mathlib.Core.Path.{_≡_, refl}
+use mathlib.Core.Path.{_≡_, refl, sym, _∙_}
 use mathlib.Core.Bool.{Bool, true, false, _&&_, not}
 use mathlib.Core.List.{[], _∷_}
-use Prim.Native.Nat.{ℕ}
+use Prim.Native.Nat.{ℕ, _≤_}
 use native.Mathlib.Omega.{arith}
 use lib.Dec.{T, leb, ltb, leb→le, nleb→lt, ltb→lt, nltb→le}
 use borrow.Author.Tests.{le-leb, lt-leb, lt-ltb, le-ltb}
@@ -18,6 +18,10 @@ both false b t = absurd t
 is-true : (b : Bool) → T b → b ≡ true
 is-true true t = refl
 is-true false t = absurd t
+
+refuted : (b : Bool) → (T b → ⊥) → false ≡ b
+refuted true h = absurd (h tt)
+refuted false h = refl
 
 none-applies : (a b c d : Bool) → lowest ((1 if not a) ∷ (2 if not b) ∷ (3 if c) ∷ (4 if d) ∷ []) ≡ 0 → T a × T b × T (not c) × T (not d)
 unfolding lowest
@@ -41,9 +45,13 @@ module _ (n k : ℕ) where
         k-most = leb→le k n k-most;
       }
 
-  pub coded-true : Coded n k → code-ranges n k ≡ true
+  -- where the first three tests hold, the last decides
+  pub coded-last : 2 ≤ n → n ≤ 64 → 2 ≤ k → leb k n ≡ code-ranges n k
   unfolding code-ranges
-  coded-true r = simp (le-leb 2 n (r .n-least), le-leb n 64 (r .n-most), le-leb 2 k (r .k-least), le-leb k n (r .k-most))
+  coded-last a b c = simp (le-leb 2 n a, le-leb n 64 b, le-leb 2 k c)
+
+  pub not-coded : (Coded n k → ⊥) → false ≡ code-ranges n k
+  not-coded h = refuted (code-ranges n k) (λ t. h (coded t))
 
 module _ (S : Setting) where
   open Setting S using (n, k, s, τ)
@@ -56,9 +64,21 @@ module _ (S : Setting) where
       let (code, s-least) = both (code-ranges n k) (leb 1 s) t2 in
       record { code = coded n k code; s-least = leb→le 1 s s-least; s-most = leb→le s 4 s-most; τ-most = ltb→lt τ n τ-most }
 
-  pub ranged-true : Ranged n k s τ → ranges S ≡ true
+  pub ranged-last : code-ranges n k ≡ true → 1 ≤ s → s ≤ 4 → ltb τ n ≡ ranges S
   unfolding ranges
-  ranged-true r = simp (coded-true n k (r .code), le-leb 1 s (r .s-least), le-leb s 4 (r .s-most), lt-ltb τ n (r .τ-most))
+  ranged-last a b c = simp (a, le-leb 1 s b, le-leb s 4 c)
+
+  pub code-not-ranged : code-ranges n k ≡ false → false ≡ ranges S
+  unfolding ranges
+  code-not-ranged e = simp e
+
+  pub not-ranged : (Ranged n k s τ → ⊥) → false ≡ ranges S
+  not-ranged h = refuted (ranges S) (λ t. h (ranged t))
+
+  pub ranged-true : Ranged n k s τ → ranges S ≡ true
+  ranged-true r =
+      let code : code-ranges n k ≡ true = sym (coded-last n k (omega arith) (omega arith) (omega arith)) ∙ le-leb k n (r .code .k-most) in
+      sym (ranged-last code (omega arith) (omega arith)) ∙ lt-ltb τ n (r .τ-most)
 
   pub passed : setting-refusal S ≡ 0 → Passed S
   unfolding setting-refusal setting-causes lowest

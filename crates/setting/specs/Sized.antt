@@ -11,4 +11,5 @@ pub record Bound (n s τ w : ℕ) : Type 0 where
 -- l is ℓ
 pub record Power (w k l : ℕ) : Type 0 where
   pub is : l ≡ (w - 1) / (k - 1)
+  pub below : l < w
   pub fits : l * (k - 1) < w
