@@ -1,5 +1,6 @@
 -- `numbers` is the setting call past its first two tests: what its callees ensure are the setting's derived numbers.
 use mathlib.Core.Path.{_∙_}
+use native.Mathlib.Omega.{arith}
 use borrow.Author.Needs.{needs}
 use Rattle.setting.specs.Call.{asked}
 use Rattle.setting.proofs.Call.{numbers-are, case-3, case-4, case-0}
@@ -27,7 +28,7 @@ returns c = λ p a.
     ∙ case-3 (asked p _ _ _ _) a (c .before .before .before .before .before .before .pre)
     (numbers-are (asked p _ _ _ _) (c .before .before .before .before .before .degree-bound .ensures) (c .before .before .before .before .last-power .ensures)
     (c .before .before .before .conditions .ensures) (c .before .before .coefficients .ensures))
-    (c .before .if1 .taken)
+    (omega arith)
 
 refused-requires-2 : tie.Need-refused-requires-2
 refused-requires-2 c κs = search needs
@@ -38,7 +39,7 @@ returns-2 c = λ p a.
     ∙ case-4 (asked p _ _ _ _) a (c .before .before .before .before .before .before .before .pre)
     (numbers-are (asked p _ _ _ _) (c .before .before .before .before .before .before .degree-bound .ensures) (c .before .before .before .before .before .last-power .ensures)
     (c .before .before .before .before .conditions .ensures) (c .before .before .before .coefficients .ensures))
-    (c .before .before .if1 .left) (c .before .if2 .taken)
+    (omega arith) (omega arith)
 
 work-room-requires : tie.Need-work-room-requires
 work-room-requires c κs = search needs
@@ -48,7 +49,7 @@ returns-3 c = λ p a.
     case-0 (asked p _ _ _ _) a (c .before .before .before .before .before .before .before .pre)
     (numbers-are (asked p _ _ _ _) (c .before .before .before .before .before .before .degree-bound .ensures) (c .before .before .before .before .before .last-power .ensures)
     (c .before .before .before .before .conditions .ensures) (c .before .before .before .coefficients .ensures))
-    (c .before .before .if1 .left) (c .before .if2 .left) (c .work-room .ensures)
+    (omega arith) (omega arith) (c .work-room .ensures)
 
 pub numbers-spec : {M : Type 1} → statement M
 numbers-spec =
