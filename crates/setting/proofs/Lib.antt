@@ -3,4 +3,5 @@ pub mod Arith
 pub mod Tests
 pub mod Call
 pub mod Accepted
+pub mod Taken
 pub mod Unique

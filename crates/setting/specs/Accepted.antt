@@ -4,6 +4,7 @@ use Prim.Native.Nat.{ℕ, _+_, _-_, _*_, _^_, _≤_, _<_}
 use lib.Dec.{T}
 use Rattle.rules.specs.Field.{modulus}
 use Rattle.rules.specs.Setting.{Setting, W, ℓ, C, U, curve-length, R}
+use Rattle.setting.specs.declared.Derived.{Derived}
 
 -- "n is 2 to 64, k is 2 to n"
 pub record Coded (n k : ℕ) : Type 0 where
@@ -43,3 +44,12 @@ pub record Accepted (S : Setting) : Type 0 where
   pub slots : (ℓ S + S .k + 4) * curve-length S ≡ R S
   pub one-slot : curve-length S ≤ R S
   pub R-most : R S < 2 ^ 20
+
+-- S is accepted, and d has its numbers: what a caller of the setting call has where the refusal is 0
+pub record Taken (S : Setting) (d : Derived) : Type 0 where
+  pub accepted : Accepted S
+  pub is-W : d .w ≡ W S
+  pub is-ℓ : d .l ≡ ℓ S
+  pub is-C : d .c ≡ C S
+  pub is-U : d .u ≡ U S
+  pub is-R : d .r ≡ R S
