@@ -1,0 +1,56 @@
+-- Of a number q that names a field: its operations give numbers below q, and depend on their arguments only modulo q.
+use mathlib.Core.Path.{_≡_, sym, _∙_, ap₂}
+use Prim.Native.Nat.{ℕ, _+_, _-_, _%_, _≤_, _<_}
+use native.Mathlib.Nat.{mod-lt, mod-mod, add-mod, mod-add-mod}
+use native.Mathlib.Omega.{arith}
+use lib.Dec.{T, eqb}
+use Rattle.rules.specs.Field.{plus, minus, times, image, alike, modulus}
+use Rattle.prime.proofs.Mod.{mul-mod-left, mul-mod-right}
+use Rattle.prime.proofs.Tests.{modulus-says}
+
+module _ (q : ℕ) (m : T (modulus q)) where
+  pub modulus-two : 1 < q
+  modulus-two = modulus-says q m .two
+
+  pub modulus-small : q ≤ 929
+  modulus-small = modulus-says q m .small
+
+  pub reduced-below : (n : ℕ) → n % q < q
+  reduced-below n = mod-lt n (omega (arith, modulus-two))
+
+  pub plus-below : (a b : ℕ) → plus q a b < q
+  unfolding plus
+  plus-below a b = reduced-below (a + b)
+
+  pub minus-below : (a b : ℕ) → minus q a b < q
+  unfolding minus
+  minus-below a b = reduced-below _
+
+  pub times-below : (a b : ℕ) → times q a b < q
+  unfolding times
+  times-below a b = reduced-below _
+
+  pub image-below : (n : ℕ) → image q n < q
+  unfolding image
+  image-below n = reduced-below n
+
+module _ (q a b : ℕ) where
+  pub plus-reduced : plus q (a % q) (b % q) ≡ plus q a b
+  unfolding plus
+  plus-reduced = sym (add-mod a b q)
+
+  pub minus-reduced : minus q (a % q) (b % q) ≡ minus q a b
+  unfolding minus
+  minus-reduced = rw mod-mod (mod-add-mod a q (q - b % q))
+
+  pub times-reduced : times q (a % q) (b % q) ≡ times q a b
+  unfolding times
+  times-reduced = mul-mod-left q a (b % q) ∙ mul-mod-right q a b
+
+  pub alike-reduced : alike q (a % q) (b % q) ≡ alike q a b
+  unfolding alike
+  alike-reduced = ap₂ eqb (mod-mod a q) (mod-mod b q)
+
+pub image-reduced : (q n : ℕ) → image q (n % q) ≡ image q n
+unfolding image
+image-reduced q n = mod-mod n q
