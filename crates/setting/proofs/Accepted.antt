@@ -75,5 +75,5 @@ module _ (S : Setting) where
       }
 
 -- every row of an accepted setting has a place
-pub row-fits : {S : Setting} → Accepted S → (t : ℕ) → t ≤ ℓ S → t * (S .k - 1) < W S
-row-fits {S} h t l = omega (arith, product t (S .k - 1) (ℓ S) (S .k - 1) l (omega arith))
+pub every-row : {S : Setting} → Accepted S → (t : ℕ) → t ≤ ℓ S → t * (S .k - 1) < W S
+every-row {S} h t l = omega (arith, product t (S .k - 1) (ℓ S) (S .k - 1) l (omega arith))

@@ -1,4 +1,3 @@
-pub mod Modulus
 pub mod Arith
 pub mod Tests
 pub mod Call

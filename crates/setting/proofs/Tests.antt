@@ -9,11 +9,8 @@ use borrow.Author.Tests.{le-leb, lt-leb, lt-ltb, le-ltb}
 use Rattle.rules.specs.Field.{modulus}
 use Rattle.rules.specs.Setting.{Setting, code-ranges, ranges, ℓ, C, U}
 use Rattle.rules.specs.Refusal.{_if_, lowest, setting-causes, setting-refusal}
+use Rattle.prime.proofs.Tests.{both}
 use Rattle.setting.specs.Accepted.{Coded, Ranged, Passed}
-
-both : (a b : Bool) → T (a && b) → T a × T b
-both true b t = (tt, t)
-both false b t = absurd t
 
 is-true : (b : Bool) → T b → b ≡ true
 is-true true t = refl

@@ -1,4 +1,5 @@
 // The setting: its ranges and its derived numbers.
+use field::is_modulus;
 ghost use mathlib.Core.Path.{_≡_};
 ghost use mathlib.Core.Bool.{true};
 ghost use Prim.Native.Nat.{ℕ, _+_, _-_, _*_, _/_, _≤_, _<_};
@@ -18,26 +19,6 @@ pub struct Derived {
     pub c: usize,
     pub u: usize,
     pub r: usize,
-}
-
-// Whether p is "a prime from 2 to 929", by trial division.
-fn is_modulus(p: usize) -> bool
-    ensures { λ r. ⌜ r ≡ modulus p ⌝ }
-{
-    if p < 2 {
-        return false;
-    }
-    if 929 < p {
-        return false;
-    }
-    let mut d: usize = 2;
-    while d < p {
-        if p % d == 0 {
-            return false;
-        }
-        d += 1;
-    }
-    true
 }
 
 // "n is 2 to 64, k is 2 to n"
