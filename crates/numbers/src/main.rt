@@ -1,0 +1,7 @@
+// Document 01's numbers that are run and compared: a table of cases for each call, and a line for each case.
+mod settings;
+mod text;
+
+fn main() {
+    settings::run();
+}
