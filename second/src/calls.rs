@@ -166,7 +166,14 @@ pub fn find_call(parameters: &Parameters, points: &[u16], word: &[u16], lent: Le
 }
 
 /// The lent curve buffer is not taken: give it empty.
-pub fn list_call(parameters: &Parameters, points: &[u16], word: &[u16], curve: &[u16], lent: Lent, way: Option<Way>) -> Outcome {
+pub fn list_call(
+    parameters: &Parameters,
+    points: &[u16],
+    word: &[u16],
+    curve: &[u16],
+    lent: Lent,
+    way: Option<Way>,
+) -> Outcome {
     let room = Room { output: Some(lent.output.len()), curve: None, work: Some(lent.work.len()) };
     match accept(parameters, points, word, Some(curve), room) {
         Err(refusal) => lent.held(refusal),
@@ -194,7 +201,14 @@ pub fn read_call(parameters: &Parameters, points: &[u16], word: &[u16], lent: Le
     }
 }
 
-fn list_from(setting: &Setting, points: &[Symbol], word: &[Symbol], curve: &[Symbol], lent: Lent, way: Option<Way>) -> Outcome {
+fn list_from(
+    setting: &Setting,
+    points: &[Symbol],
+    word: &[Symbol],
+    curve: &[Symbol],
+    lent: Lent,
+    way: Option<Way>,
+) -> Outcome {
     let way = way.unwrap_or_else(|| Way::cheapest(setting));
     let messages = listed(setting, points, word, curve, way);
     Outcome {
@@ -225,7 +239,13 @@ impl Room {
 }
 
 /// Refusals 1 to 8 of the calls that take a word; `curve` is the proposed one where there is one.
-fn accept(parameters: &Parameters, points: &[u16], word: &[u16], curve: Option<&[u16]>, room: Room) -> Result<Setting, u64> {
+fn accept(
+    parameters: &Parameters,
+    points: &[u16],
+    word: &[u16],
+    curve: Option<&[u16]>,
+    room: Room,
+) -> Result<Setting, u64> {
     let setting = parameters.accept()?;
     let (p, n) = (parameters.p, setting.n);
     if points.len() != n || word.len() != n || curve.is_some_and(|q| q.len() != setting.curve_length()) {

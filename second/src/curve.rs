@@ -82,9 +82,8 @@ fn not_zero(curve: &[Symbol]) -> bool {
 
 /// "each coefficient with i + t·(k−1) ≥ W is zero"
 fn weighted(setting: &Setting, curve: &[Symbol]) -> bool {
-    (0..=setting.l).all(|t| {
-        (0..setting.w).all(|i| i + t * (setting.k - 1) < setting.w || curve[t * setting.w + i] == 0)
-    })
+    (0..=setting.l)
+        .all(|t| (0..setting.w).all(|i| i + t * (setting.k - 1) < setting.w || curve[t * setting.w + i] == 0))
 }
 
 /// "at each (α_j, r_j) and each pair a, b with a + b < s, the Hasse derivative is zero"

@@ -148,7 +148,8 @@ impl Maker {
         loop {
             let p = self.random.pick(moduli);
             let n = self.random.between(*places.start(), *places.end()).min(p);
-            let k = if self.random.below(2) == 0 { self.random.between(2, n) } else { self.random.between(2, n.min(5)) };
+            let k =
+                if self.random.below(2) == 0 { self.random.between(2, n) } else { self.random.between(2, n.min(5)) };
             let s = self.random.between(1, 4);
             let held = |tau: &u64| Setting::accept(p, n, k, s, *tau).is_ok_and(|setting| setting.r <= WORK);
             let all: Vec<u64> = (0..n).filter(held).collect();
@@ -268,7 +269,7 @@ impl Maker {
     fn more_places(&mut self) {
         let p = self.random.pick(&[2, 3, 5, 7, 13, 31]);
         let n = self.random.between(p + 1, (p + 20).min(64));
-        let setting = (0..n).filter_map(|tau| Setting::accept(p, n, 2, 1, tau).ok()).last().expect("one is accepted");
+        let setting = (0..n).rev().find_map(|tau| Setting::accept(p, n, 2, 1, tau).ok()).expect("one is accepted");
         self.setting_record(&setting);
         let above = self.random.below(2);
         let points: Vec<Symbol> = (0..n).map(|j| (j % (p + above)) as Symbol).collect();

@@ -35,9 +35,7 @@ pub fn stripped(curve: &Rows) -> Rows {
 /// Q(0, g)
 fn at_zero(p: u32, curve: &Rows, g: Symbol) -> Symbol {
     let powers = powers(p, g, curve.len());
-    curve.iter().zip(powers).fold(0, |v, (row, power)| {
-        sum(p, v, product(p, row.first().copied().unwrap_or(0), power))
-    })
+    curve.iter().zip(powers).fold(0, |v, (row, power)| sum(p, v, product(p, row.first().copied().unwrap_or(0), power)))
 }
 
 /// Q(x, x·y + g): y^t becomes the sum over j of binomial(t,j)·g^(t−j)·x^j·y^j.

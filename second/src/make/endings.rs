@@ -44,7 +44,13 @@ impl Maker {
                 0 => {
                     let any = self.random.between(2, 9);
                     let p = self.random.pick(&[2, 3, 5, 7, any]);
-                    let body = [p, self.random.between(1, 4), self.random.between(1, 3), self.random.between(1, 4), self.random.below(3)];
+                    let body = [
+                        p,
+                        self.random.between(1, 4),
+                        self.random.between(1, 3),
+                        self.random.between(1, 4),
+                        self.random.below(3),
+                    ];
                     self.record(1, &body);
                 }
                 1 | 2 => {
