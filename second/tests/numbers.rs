@@ -67,7 +67,11 @@ fn seven_curves() {
     assert_eq!(outcome.work, [vec![0; 144], vec![7]].concat());
     let mut only_y = vec![0; 16];
     only_y[4] = 1;
-    for refused in [only_y, vec![0; 16]] {
+    // x²·(y² − x·y) vanishes at every place, but its terms have i + t·(k−1) = W
+    let mut heavy = vec![0; 16];
+    heavy[7] = 6;
+    heavy[10] = 1;
+    for refused in [only_y, heavy, vec![0; 16]] {
         assert_eq!(check_call(&seven(1, 3), &POINTS, &WORD, &refused), Checked { refusal: 0, yes: false });
         let outcome = list_call(&seven(1, 3), &POINTS, &WORD, &refused, lent, None);
         assert_eq!((outcome.refusal, outcome.found, outcome.tried), (9, 0, 0));
