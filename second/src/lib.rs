@@ -1,4 +1,4 @@
-//! A second reader, written from document 01 alone and on another plan than the proved one:
+//! A second reader, after document 01 and on another plan than the proved one:
 //! enumeration of messages, elimination for the curve, the search rule word for word.
 //! The proved reader is compared with it, so plainness comes before speed everywhere.
 
