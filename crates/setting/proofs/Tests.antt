@@ -9,7 +9,7 @@ use borrow.Author.Tests.{le-leb, lt-leb, lt-ltb, le-ltb}
 use Rattle.rules.specs.Field.{modulus}
 use Rattle.rules.specs.Setting.{Setting, code-ranges, ranges, ℓ, C, U}
 use Rattle.rules.specs.Refusal.{_if_, lowest, setting-causes, setting-refusal}
-use Rattle.prime.proofs.Tests.{both}
+use Rattle.rules.proofs.Tests.{both}
 use Rattle.setting.specs.Accepted.{Coded, Ranged, Passed}
 
 is-true : (b : Bool) → T b → b ≡ true
