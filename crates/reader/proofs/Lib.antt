@@ -1,1 +1,7 @@
-pub mod Scan
+mod Scan
+mod Patch
+mod Front
+mod Lowest
+mod Pair
+mod Encoding
+pub mod Unique

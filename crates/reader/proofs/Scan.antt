@@ -2,11 +2,12 @@
 use mathlib.Core.Path.{_≡_, refl, sym, _∙_, ap}
 use mathlib.Core.Bool.{Bool, true, false, not, _&&_}
 use mathlib.Core.List.{List, [], _∷_}
-use Prim.Native.Nat.{ℕ, suc, _+_, _<_, _≤_}
+use Prim.Native.Nat.{ℕ, suc, _+_, _-_, _<_, _≤_}
+use native.Mathlib.Omega.{arith}
 use native.Mathlib.Numerals.{add-one}
 use lib.Dec.{eqb}
-use lib.ListN.{length, drop, getD, drop-of-length-le}
-use lib.Seq.{drop-cons}
+use lib.ListN.{length, take, drop, getD, length-drop, drop-of-length-le}
+use lib.Seq.{drop-cons, take-all}
 use Rattle.rules.specs.Lists.{all, distinct}
 
 pub record Scan (F : List ℕ → Bool) (head : ℕ → List ℕ → Bool) : Type 0 where
@@ -33,3 +34,7 @@ all-scan test = record { none = refl; more = λ x xs. refl }
 pub distinct-scan : Scan (distinct eqb) (λ x xs. all (λ y. not (eqb x y)) xs)
 unfolding distinct
 distinct-scan = record { none = refl; more = λ x xs. refl }
+
+-- what is_new says of the part behind place i, said of the rest
+pub new-of-part : (xs : List ℕ) (i x : ℕ) {r : Bool} → r ≡ all (λ y. not (eqb x y)) (take (length xs - i) (drop i xs)) → all (λ y. not (eqb x y)) (drop i xs) ≡ r
+new-of-part xs i x e = sym (e ∙ ap (all (λ y. not (eqb x y))) (take-all (length xs - i) (drop i xs) (simp length-drop (omega arith))))

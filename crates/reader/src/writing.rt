@@ -5,7 +5,6 @@ ghost use lib.Dec.{T};
 ghost use lib.ListN.{length};
 ghost use Rattle.rules.specs.Field.{ops, modulus};
 ghost use Rattle.rules.specs.Code.{encode};
-
 use within::eval;
 
 // The values of the message's polynomial at the points.

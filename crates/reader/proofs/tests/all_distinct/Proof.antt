@@ -1,68 +1,68 @@
+-- `reader::tests::all_distinct` meets its contract: what is passed is none of those behind it, so that the test is that of the rest.
+use Prim.Native.Nat.{_+_, _-_}
+use mathlib.Core.Path.{_≡_, refl, sym, ap, _∙_}
+use lib.Dec.{eqb}
+use lib.ListN.{length, drop}
+use borrow.Author.Tests.{not-true, not-false}
+use Rattle.rules.specs.Lists.{distinct}
+use Rattle.reader.proofs.Scan.{scan-more, scan-fails, scan-ends, distinct-scan, new-of-part}
 use native.Mathlib.Omega.{arith}
 use borrow.Author.Needs.{needs}
 use Rattle.reader.proofs.tests.all_distinct.Statement.{statement}
 use Rattle.reader.proofs.tests.all_distinct.Tie as tie
-use Rattle.reader.proofs.tests.all_distinct.Reads as reads
-use Rattle.reader.proofs.tests.all_distinct.Lts as lts
-use Rattle.reader.proofs.tests.is_new.Reads as is-new-reads
 
 abbrev Inv-loop : tie.InvT-loop
-Inv-loop points i₀ i = ?
+Inv-loop points i₀ i = distinct eqb points ≡ distinct eqb (drop i points)
 
 abbrev μ-loop : tie.MeasureT-loop
-μ-loop points i₀ i = ?
+μ-loop points i₀ i = length points - i
 
--- src/tests.rt:48:5
 loop-holds : tie.Need-loop-holds Inv-loop μ-loop
-loop-holds c = search needs
+loop-holds c = refl
 
--- src/tests.rt:49:20
 add-next : tie.Need-add-next Inv-loop μ-loop
 add-next c = search needs
 
--- src/tests.rt:50:20
 mul-is-new : tie.Need-mul-is-new Inv-loop μ-loop
 mul-is-new c = search needs
 
--- src/tests.rt:50:20
 shared-slice-read-is-new : tie.Need-shared-slice-read-is-new Inv-loop μ-loop
 shared-slice-read-is-new c = search needs
 
--- src/tests.rt:50:31
 mul-is-new-2 : tie.Need-mul-is-new-2 Inv-loop μ-loop
 mul-is-new-2 c = search needs
 
--- src/tests.rt:50:31
 sub-is-new : tie.Need-sub-is-new Inv-loop μ-loop
 sub-is-new c = search needs
 
--- src/tests.rt:50:31
 part-is-new-start : tie.Need-part-is-new-start Inv-loop μ-loop
 part-is-new-start c = search needs
 
--- src/tests.rt:50:31
 part-is-new-end : tie.Need-part-is-new-end Inv-loop μ-loop
 part-is-new-end c = search needs
 
--- src/tests.rt:50:13
 is-new-requires : tie.Need-is-new-requires Inv-loop μ-loop
 is-new-requires c κs = search needs
 
--- src/tests.rt:51:13
 returns : tie.Need-returns Inv-loop μ-loop
-returns c = search needs
+returns c =
+    let l = c .before .before .before .before .before .loop in
+    let a = c .before .before .before .before .before .before .before .args in
+    scan-fails distinct-scan _ (l .i) (l .inv) (omega arith)
+    (new-of-part (a .points .now) (l .i + 1) _ (c .before .is-new .ensures) ∙ not-true _ (c .if1 .taken))
 
--- src/tests.rt:48:5
 loop-less : tie.Need-loop-less Inv-loop μ-loop
 loop-less c = search needs
 
--- src/tests.rt:48:5
 loop-again : tie.Need-loop-again Inv-loop μ-loop
-loop-again c = search needs
+loop-again c =
+    let l = c .before .before .before .before .before .loop in
+    let a = c .before .before .before .before .before .before .before .args in
+    scan-more distinct-scan _ (l .i) (l .inv) (omega arith)
+    (new-of-part (a .points .now) (l .i + 1) _ (c .before .is-new .ensures) ∙ not-false _ (c .if1 .left))
 
--- src/tests.rt:44:1
 returns-2 : tie.Need-returns-2 Inv-loop μ-loop
-returns-2 c = search needs
+returns-2 c = scan-ends distinct-scan _ (c .before .loop .i) (c .before .loop .inv) (omega arith)
 
 pub all-distinct-spec : {M : Type 1} → statement M
 all-distinct-spec =
