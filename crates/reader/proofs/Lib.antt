@@ -1,4 +1,5 @@
 mod Scan
+mod Answers
 mod Patch
 mod Front
 mod Lowest

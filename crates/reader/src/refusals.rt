@@ -8,16 +8,10 @@ use crate::tests;
 pub fn of_pair(p: usize, n: usize, points: &[u16], m: usize, symbols: &[u16]) -> u16
     ensures { λ r. ⌜ r ≡ lowest (pair-causes p n (now (points .entry)) m (now (symbols .entry))) ⌝ }
 {
-    if points.len() != n {
+    if !tests::both_long(n, points, m, symbols) {
         return 5;
     }
-    if symbols.len() != m {
-        return 5;
-    }
-    if !tests::all_below(p, points) {
-        return 6;
-    }
-    if !tests::all_below(p, symbols) {
+    if !tests::both_below(p, points, symbols) {
         return 6;
     }
     if !tests::all_distinct(points) {

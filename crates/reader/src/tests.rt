@@ -1,9 +1,29 @@
 // What the calls test of the slices that they take.
 ghost use mathlib.Core.Path.{_≡_};
-ghost use mathlib.Core.Bool.{not};
+ghost use mathlib.Core.Bool.{not, _&&_};
 ghost use lib.Dec.{eqb};
 ghost use Rattle.rules.specs.Lists.{all, distinct};
-ghost use Rattle.rules.specs.Refusal.{under};
+ghost use Rattle.rules.specs.Refusal.{long, under};
+
+// Whether these are n and those are m.
+pub fn both_long(n: usize, these: &[u16], m: usize, those: &[u16]) -> bool
+    ensures { λ r. ⌜ r ≡ long n (now (these .entry)) && long m (now (those .entry)) ⌝ }
+{
+    if these.len() != n {
+        return false;
+    }
+    those.len() == m
+}
+
+// Whether each of these and of those is below p.
+pub fn both_below(p: usize, these: &[u16], those: &[u16]) -> bool
+    ensures { λ r. ⌜ r ≡ under p (now (these .entry)) && under p (now (those .entry)) ⌝ }
+{
+    if !all_below(p, these) {
+        return false;
+    }
+    all_below(p, those)
+}
 
 // Whether each is below p.
 pub fn all_below(p: usize, symbols: &[u16]) -> bool
