@@ -8,8 +8,17 @@ pub mod Bridge
 pub mod Total
 pub mod Weight
 pub mod Hasse
+pub mod Rank
+pub mod Conditions
+pub mod Basis
 pub mod Complete
 pub mod Agreement
+pub mod Plan
+pub mod Passes
+pub mod Least
+pub mod Solve
+pub mod Exists
+pub mod Flat
 pub mod Rows
 pub mod Step
 pub mod Strip
