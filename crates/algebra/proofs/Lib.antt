@@ -25,3 +25,4 @@ pub mod Strip
 pub mod Search
 pub mod Slot
 pub mod Alive
+pub mod Carry

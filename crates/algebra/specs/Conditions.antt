@@ -13,6 +13,10 @@ pub record Condition (A : Type 0) : Type 0 where
   pub a : ℕ
   pub b : ℕ
 
+-- the condition in another instance of the operations
+abbrev pub carry : {A B : Type 0} → (A → B) → Condition A → Condition B
+carry φ c = record { point = φ (c .point); symbol = φ (c .symbol); a = c .a; b = c .b }
+
 module _ {A : Type 0} where
   unfoldable pub condition : Triple A → ℕ → ℕ → Condition A
   condition z b a = record { point = z .point; symbol = z .symbol; a = a; b = b }
