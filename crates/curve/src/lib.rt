@@ -1,0 +1,1 @@
+// A curve on slices: the weights of its Hasse derivatives, its values, and its check.
