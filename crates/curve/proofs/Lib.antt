@@ -1,2 +1,3 @@
-pub mod Value
+pub mod Weights
+pub mod Pairing
 pub mod Triples
