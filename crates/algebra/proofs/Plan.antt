@@ -5,13 +5,13 @@ use mathlib.Core.List.{List, [], _∷_, _++_, map, flatMap, zipWith, append-nil,
 use Prim.Native.Nat.{ℕ, zero, suc, _<_, _+_, _*_, _-_, _/_}
 use native.Mathlib.Omega.{arith}
 use native.Mathlib.Nat.{suc-mul, mul-suc, mul-assoc, div-eq-of-eq-mul-left}
-use lib.ListN.{length, getD, take, length-append, length-map}
+use lib.ListN.{length, getD, take, length-map}
 use lib.Seq.{take-suc}
 use Rattle.rules.specs.Lists.{from, below, sum}
 use Rattle.rules.specs.Code.{Triple, triples}
 use Rattle.rules.proofs.Tests.{from-mem, mem-from}
 use Rattle.algebra.specs.Conditions.{Condition, condition, conditions-along, conditions-at, conditions, Ready}
-use Rattle.algebra.proofs.Lists.{map-append}
+use Rattle.algebra.proofs.Lists.{map-append, length-flatMap}
 
 -- lists over the numbers below n grow at their end
 
@@ -47,11 +47,6 @@ module _ {A : Type 0} where
   unfolding conditions
   conditions-more zs j z l = ap (flatMap conditions-at) (take-suc zs j z l) ∙ flat-append conditions-at (take j zs) _ ∙ ap (_++_ (conditions (take j zs))) (flat-one conditions-at (getD zs j z))
 
-  length-flat : {B : Type 0} (f : B → List A) (xs : List B) → length (flatMap f xs) ≡ sum (λ x. length (f x)) xs
-  unfolding flatMap sum
-  length-flat f [] = refl
-  length-flat f (x ∷ xs) = length-append (f x) (flatMap f xs) ∙ ap (_+_ (length (f x))) (length-flat f xs)
-
 pub length-from : (a n : ℕ) → length (from a n) ≡ n
 unfolding from
 length-from a zero = refl
@@ -67,12 +62,12 @@ module _ {A : Type 0} where
   count-at : (z : Triple A) → length (conditions-at z) ≡ z .times * (z .times + 1) / 2
   unfolding conditions-at conditions-along below
   count-at z =
-      length-flat _ (below (z .times)) ∙ ap (λ f. sum f (below (z .times))) (fun-ext (λ b. length-map (below (z .times - b)) (condition z b) ∙ length-from 0 (z .times - b)))
+      length-flatMap _ (below (z .times)) ∙ ap (λ f. sum f (below (z .times))) (fun-ext (λ b. length-map (below (z .times - b)) (condition z b) ∙ length-from 0 (z .times - b)))
       ∙ sym (div-eq-of-eq-mul-left (omega arith) (sym (triangle (z .times) 0 (z .times) (omega arith))))
 
   pub count : (zs : List (Triple A)) → length (conditions zs) ≡ sum (λ z. z .times * (z .times + 1) / 2) zs
   unfolding conditions
-  count zs = length-flat conditions-at zs ∙ ap (λ f. sum f zs) (fun-ext count-at)
+  count zs = length-flatMap conditions-at zs ∙ ap (λ f. sum f zs) (fun-ext count-at)
 
   sum-triples : (f : ℕ → ℕ) (s : ℕ) (points word : List A) → length points ≡ length word → sum (λ z. f (z .times)) (triples s points word) ≡ length points * f s
   unfolding triples zipWith sum
