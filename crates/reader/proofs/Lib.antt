@@ -5,4 +5,7 @@ mod Front
 mod Lowest
 mod Pair
 mod Encoding
+mod Shape
+mod Times
+mod Checking
 pub mod Unique

@@ -1,7 +1,11 @@
 -- The outcomes of rules, made of what a call returns and what its buffers hold.
+use mathlib.Core.Bool.{Bool}
 use mathlib.Core.List.{List}
 use Prim.Native.Nat.{ℕ}
-use Rattle.rules.specs.Outcome.{Encoded}
+use Rattle.rules.specs.Outcome.{Encoded, Checked}
 
 abbrev pub encoded : ℕ → List ℕ → Encoded
 encoded refusal output = record { refusal = refusal; output = output }
+
+abbrev pub checked : ℕ → Bool → Checked
+checked refusal answer = record { refusal = refusal; yes = answer }

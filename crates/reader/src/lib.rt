@@ -1,11 +1,19 @@
 // The public calls of document 01. Each tests its refusals in the table's order, and then asks the engine.
 ghost use mathlib.Core.Path.{_≡_};
-ghost use Rattle.rules.specs.Outcome.{encode-call};
-ghost use Rattle.reader.specs.Calls.{encoded};
+ghost use Rattle.rules.specs.Outcome.{encode-call, check-call};
+ghost use Rattle.setting.specs.Call.{asked};
+ghost use Rattle.reader.specs.Calls.{encoded, checked};
 
 mod refusals;
 mod tests;
+mod word;
 mod writing;
+
+// What the check answers: the refusal number or 0, and yes or no, which is no where it refuses.
+pub struct Checked {
+    pub refusal: u16,
+    pub yes: bool,
+}
 
 // Writing a patch: the values of the message's polynomial at the points, n numbers at the front of the output. The answer is the refusal number, or 0.
 pub fn encode(
@@ -24,4 +32,37 @@ pub fn encode(
     }
     writing::write_patch(p as u16, points, message, &mut output[0..n]);
     0
+}
+
+// Whether the proposed curve passes for the word.
+pub fn check(
+    p: usize,
+    n: usize,
+    k: usize,
+    s: usize,
+    tau: usize,
+    points: &[u16],
+    word: &[u16],
+    curve: &[u16],
+) -> Checked
+    ensures { λ r. ⌜ checked (r .refusal) (r .yes) ≡ check-call (asked p n k s tau) (now (points .entry)) (now (word .entry)) (now (curve .entry)) ⌝ }
+{
+    let d = setting::derive(p, n, k, s, tau);
+    if d.refusal != 0 {
+        return Checked {
+            refusal: d.refusal,
+            yes: false,
+        };
+    }
+    let number = refusals::of_proposed(p, n, points, word, (d.l + 1) * d.w, curve);
+    if number != 0 {
+        return Checked {
+            refusal: number,
+            yes: false,
+        };
+    }
+    Checked {
+        refusal: 0,
+        yes: word::fits(p as u16, k, d.w, d.l, s as u16, points, word, curve),
+    }
 }

@@ -1,7 +1,7 @@
 // The refusal numbers of the calls: the lowest that applies, and 0 where none does.
 ghost use mathlib.Core.Path.{_≡_};
 ghost use Rattle.rules.specs.Refusal.{lowest, encode-refusal};
-ghost use Rattle.reader.specs.Causes.{pair-causes};
+ghost use Rattle.reader.specs.Causes.{pair-causes, proposed-causes};
 use crate::tests;
 
 // 5 to 7 for n points and m symbols.
@@ -12,6 +12,35 @@ pub fn of_pair(p: usize, n: usize, points: &[u16], m: usize, symbols: &[u16]) ->
         return 5;
     }
     if !tests::both_below(p, points, symbols) {
+        return 6;
+    }
+    if !tests::all_distinct(points) {
+        return 7;
+    }
+    0
+}
+
+// 5 to 7 for n points, as many symbols, and a proposed curve of that size.
+pub fn of_proposed(
+    p: usize,
+    n: usize,
+    points: &[u16],
+    word: &[u16],
+    size: usize,
+    curve: &[u16],
+) -> u16
+    ensures { λ r. ⌜ r ≡ lowest (proposed-causes p n (now (points .entry)) (now (word .entry)) size (now (curve .entry))) ⌝ }
+{
+    if !tests::both_long(n, points, n, word) {
+        return 5;
+    }
+    if curve.len() != size {
+        return 5;
+    }
+    if !tests::both_below(p, points, word) {
+        return 6;
+    }
+    if !tests::all_below(p, curve) {
         return 6;
     }
     if !tests::all_distinct(points) {
