@@ -1,0 +1,5 @@
+pub mod Reduce
+pub mod Modulus
+pub mod Euclid
+pub mod Refuses
+pub mod Unique
