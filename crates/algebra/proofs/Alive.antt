@@ -1,14 +1,14 @@
 -- At most d beginnings of each length are alive where Q(0, y) has degree d: the next curve's degree is at most the multiplicity of the symbol taken.
 use mathlib.Core.Path.{_≡_, refl, sym, _∙_, ap, subst}
 use mathlib.Core.Bool.{Bool, true, false, cond, not, _&&_}
-use mathlib.Core.List.{List, [], _∷_, map, flatMap}
+use mathlib.Core.List.{List, [], _∷_, map}
 use mathlib.Core.Logic.{by-cases}
 use Prim.Native.Nat.{ℕ, zero, suc, _<_, _≤_, _+_, _-_, _*_, _/_, _%_}
 use native.Mathlib.Nat.{zero-add, mod-lt, div-add-mod', div-lt-iff-lt-mul, mul-suc}
 use native.Mathlib.Omega.{arith}
 use native.Mathlib.Decide.{decLe, decLt}
 use lib.Dec.{T, T-not}
-use lib.ListN.{length, getD, length-append, length-map}
+use lib.ListN.{length, getD, length-map}
 use Rattle.rules.specs.Lists.{from, below, all, sum, distinct}
 use Rattle.rules.specs.Field.{Ops}
 use Rattle.rules.specs.Laws.{Laws}
@@ -18,6 +18,7 @@ use Rattle.rules.proofs.Tests.{both, either}
 use Rattle.algebra.specs.Poly.{Seq, Val, Short, Zero, coef, taylor}
 use Rattle.algebra.specs.Points.{Away, Distinct, Root, places, count, Roots}
 use Rattle.algebra.specs.Search.{cell, next, found, tried, Headed}
+use Rattle.algebra.proofs.Lists.{length-flatMap}
 use Rattle.algebra.proofs.Ring.{same-if}
 use Rattle.algebra.proofs.Taylor.{taylor-eval, coef-short}
 use Rattle.algebra.proofs.Roots.{root-count, root-count-short}
@@ -35,11 +36,6 @@ sum-few : (f : ℕ → ℕ) (d : ℕ) → ((i : ℕ) → f i ≤ d) → (a n : �
 unfolding sum from
 sum-few f d h a zero = omega arith
 sum-few f d h a (suc n) = omega (arith, h a, sum-few f d h (suc a) n, mul-suc d n)
-
-length-flatMap : {A B : Type 0} (f : A → List B) (xs : List A) → length (flatMap f xs) ≡ sum (λ x. length (f x)) xs
-unfolding sum flatMap
-length-flatMap f [] = refl
-length-flatMap f (x ∷ xs) = length-append (f x) (flatMap f xs) ∙ ap (_+_ (length (f x))) (length-flatMap f xs)
 
 module _ (O : Ops) (L : Laws O) where
   open Ops O using (Symbol, nil, same, symbols)

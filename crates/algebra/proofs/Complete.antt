@@ -1,29 +1,28 @@
 -- Where a curve passes, every message that scores enough is a root of it, so that the sifted roots are the readings.
-use mathlib.Core.Path.{_≡_, refl, sym, _∙_, ap, ap₂, fun-ext}
+use mathlib.Core.Path.{_≡_, refl, sym, _∙_, ap}
 use mathlib.Core.Bool.{Bool, true, false, cond, not, _&&_, _||_}
-use mathlib.Core.List.{List, [], _∷_, _++_, map, flatMap, zipWith}
+use mathlib.Core.List.{List, [], _∷_, _++_, map, flatMap}
 use mathlib.Core.Logic.{by-cases}
 use Prim.Native.Nat.{ℕ, zero, suc, _+_, _-_, _*_, _≤_, _<_}
-use native.Mathlib.Nat.{mul-add, mul-zero, mul-one, mul-le-mul-left, le-of-mul-le-mul-left}
 use native.Mathlib.Decide.{decLt}
 use native.Mathlib.Omega.{arith}
-use lib.Dec.{T, T-not, leb, ltb, leb→le, le→leb, ltb→lt}
+use lib.Dec.{T, ltb, leb→le, ltb→lt}
 use lib.ListN.{length, getD, take, drop, length-take, List·getD-eq-default}
 use lib.Seq.{getD-take, getD-drop}
-use Rattle.rules.specs.Lists.{below, all, distinct, keep, sum}
+use Rattle.rules.specs.Lists.{below, all, keep, sum}
 use Rattle.rules.specs.Field.{Ops}
 use Rattle.rules.specs.Laws.{Laws}
-use Rattle.rules.specs.Code.{Triple, triples, zeros, eval, meets, score, messages, sifted, scoring, readings}
+use Rattle.rules.specs.Code.{Triple, zeros, eval, meets, score, messages, sifted, scoring}
 use Rattle.rules.specs.Curve.{coefficient, weighted, hasse, through, passes}
 use Rattle.rules.specs.Search.{rows, along, roots, listed}
-use Rattle.rules.proofs.Tests.{both, and, either, below-at, or-else, same-test}
-use Rattle.algebra.specs.Poly.{Short, Zero, Val, coef, taylor, taylor²}
+use Rattle.rules.proofs.Tests.{both, either, below-at, or-else}
+use Rattle.algebra.specs.Poly.{Short, coef, taylor²}
 use Rattle.algebra.specs.Points.{Root, count, Away, Distinct, places, Roots, Apart, Differ}
-use Rattle.algebra.proofs.Ring.{same-if}
 use Rattle.algebra.proofs.Seq.{plus-short, act-fits, none-at}
 use Rattle.algebra.proofs.Taylor.{coef-nil, coef-sum, coef-product}
 use Rattle.algebra.proofs.Roots.{root-count-short}
 use Rattle.algebra.proofs.Along.{along-nil, along-cons, along-val}
+use Rattle.algebra.proofs.Rows.{zeros-zero}
 use Rattle.algebra.proofs.Hasse.{hasse-taylor}
 
 -- each of a list
@@ -69,11 +68,6 @@ module _ (O : Ops) where
 module _ (O : Ops) (L : Laws O) where
   open Ops O using (Symbol, nil, same)
 
-  pub zero-zeros : (q : List Symbol) → Zero O q → T (zeros O q)
-  unfolding zeros all coef
-  zero-zeros [] z = tt
-  zero-zeros (c ∷ q) z = and (same c nil) (all (λ c. same c nil) q) (same-if O L c nil (z zero)) (zero-zeros q (λ i. z (suc i)))
-
   -- The degree of Q(x, f(x)): the row at y^t is short by t·d, and f has at most d + 1 coefficients.
 
   abbrev Fits : ℕ → ℕ → List (List Symbol) → Type 0
@@ -116,11 +110,13 @@ module _ (O : Ops) (L : Laws O) where
 
   -- The triples that a message meets are roots of Q(x, f(x)), as often as they say.
 
-  through-at : (W ℓ : ℕ) (Q : List Symbol) (z : Triple Symbol) → T (through O W ℓ Q z) → (a b : ℕ) → a + b < z .times → taylor² O (z .point) (z .symbol) a b (rows W (ℓ + 1) Q) ≡ nil
+  pub through-hasse : (W ℓ : ℕ) (Q : List Symbol) (z : Triple Symbol) → T (through O W ℓ Q z) → (a b : ℕ) → a + b < z .times → hasse O W ℓ Q (z .point) (z .symbol) a b ≡ nil
   unfolding through
-  through-at W ℓ Q z t a b h =
-      sym (hasse-taylor O L W ℓ Q (z .point) (z .symbol) a b)
-      ∙ L .same-eq _ nil (below-at _ (z .times - a) b (below-at (λ a. all (λ b. same (hasse O W ℓ Q (z .point) (z .symbol) a b) nil) (below (z .times - a))) (z .times) a t (omega arith)) (omega arith))
+  through-hasse W ℓ Q z t a b h =
+      L .same-eq _ nil (below-at _ (z .times - a) b (below-at (λ a. all (λ b. same (hasse O W ℓ Q (z .point) (z .symbol) a b) nil) (below (z .times - a))) (z .times) a t (omega arith)) (omega arith))
+
+  through-at : (W ℓ : ℕ) (Q : List Symbol) (z : Triple Symbol) → T (through O W ℓ Q z) → (a b : ℕ) → a + b < z .times → taylor² O (z .point) (z .symbol) a b (rows W (ℓ + 1) Q) ≡ nil
+  through-at W ℓ Q z t a b h = sym (hasse-taylor O L W ℓ Q (z .point) (z .symbol) a b) ∙ through-hasse W ℓ Q z t a b h
 
   module _ (f : List Symbol) where
     -- the triples that the message meets, as roots
@@ -172,7 +168,7 @@ module _ (O : Ops) (L : Laws O) where
     complete f e g =
         let r = both (not (zeros O Q) && weighted O k W ℓ Q) (all (through O W ℓ Q) zs) t in
         let w = both (not (zeros O Q)) (weighted O k W ℓ Q) (r .0) .1 in
-        zero-zeros _ (root-count-short O L W (along O (rows W (ℓ + 1) Q) f) (met f zs)
+        zeros-zero O L _ .1 (root-count-short O L W (along O (rows W (ℓ + 1) Q) f) (met f zs)
         (along-short (k - 1) f (omega arith) (rows W (ℓ + 1) Q) W (fits (k - 1) W (ℓ + 1) W Q (weighted-at k W ℓ Q w)))
         (met-distinct f zs u) (met-roots f W ℓ Q zs (r .1)) (omega (arith, score-met f zs)))
 

@@ -8,13 +8,13 @@ use lib.ListN.{length, getD, take, drop, length-take}
 use lib.Seq.{getD-take, getD-drop, drop-drop}
 use Rattle.rules.specs.Field.{Ops}
 use Rattle.rules.specs.Laws.{Laws}
-use Rattle.rules.specs.Curve.{binomial, power, total, coefficient, hasse}
+use Rattle.rules.specs.Curve.{total, coefficient, hasse}
 use Rattle.rules.specs.Search.{rows}
 use Rattle.algebra.specs.Poly.{taylor, taylor²}
 use Rattle.algebra.specs.Conditions.{weight}
-use Rattle.algebra.proofs.Ring.{mul-left-comm, nil-add, one-mul, add-mul, mul-nil, nil-mul}
+use Rattle.algebra.proofs.Ring.{nil-add, one-mul, add-mul, mul-nil, nil-mul}
 use Rattle.algebra.proofs.Total.{total-ext, total-nil, total-front, total-mul, total-add}
-use Rattle.algebra.proofs.Weight.{weight-zero, weight-low, weight-up, weight-next, weight-binomial}
+use Rattle.algebra.proofs.Weight.{weight-zero, weight-low, weight-up, weight-next, hasse-weights}
 
 module _ (O : Ops) (L : Laws O) where
   open Ops O using (Symbol, nil, one, add, mul, ofNat)
@@ -48,20 +48,15 @@ module _ (O : Ops) (L : Laws O) where
   rows-length W zero Q g = refl
   rows-length W (suc n) Q g = ap suc (rows-length W n (drop W Q) g)
 
-  regroup : (s t c u v : Symbol) → mul s (mul t (mul c (mul u v))) ≡ mul (mul t v) (mul (mul s u) c)
-  regroup s t c u v = simp (L .mul-assoc, mul-left-comm O L, L .mul-comm)
-
-  module _ (W : ℕ) (Q : List Symbol) (α r : Symbol) (a b t : ℕ) where
-    column : total O W (λ i. mul (ofNat (binomial i a)) (mul (ofNat (binomial t b)) (mul (getD Q (t * W + i) nil) (mul (power O α (i - a)) (power O r (t - b))))))
-        ≡ mul (weight O r b t) (taylor O α (take W (drop (t * W) Q)) a)
-    column =
-        total-ext O L W _ _ (λ i h. regroup _ _ _ _ _
-        ∙ ap₂ (λ v x. mul v (mul x (getD Q (t * W + i) nil))) (sym (weight-binomial O L r b t)) (sym (weight-binomial O L α a i))
-        ∙ ap (λ x. mul (weight O r b t) (mul (weight O α a i) x)) (sym (getD-take W _ i nil h ∙ getD-drop (t * W) Q i nil)))
-        ∙ total-mul O L W (weight O r b t) _ ∙ ap (mul (weight O r b t)) (sym (taylor-total α _ a W (omega (arith, length-take W (drop (t * W) Q)))))
+  column : (W : ℕ) (Q : List Symbol) (α : Symbol) (a t : ℕ) → total O W (λ i. mul (weight O α a i) (coefficient O W Q i t)) ≡ taylor O α (take W (drop (t * W) Q)) a
+  unfolding coefficient
+  column W Q α a t =
+      total-ext O L W _ _ (λ i h. ap (mul (weight O α a i)) (sym (getD-take W _ i nil h ∙ getD-drop (t * W) Q i nil)))
+      ∙ sym (taylor-total α _ a W (omega (arith, length-take W (drop (t * W) Q))))
 
   pub hasse-taylor : (W ℓ : ℕ) (Q : List Symbol) (α r : Symbol) (a b : ℕ) → hasse O W ℓ Q α r a b ≡ taylor² O α r a b (rows W (ℓ + 1) Q)
-  unfolding hasse taylor² coefficient
+  unfolding taylor²
   hasse-taylor W ℓ Q α r a b =
-      total-ext O L (ℓ + 1) _ _ (λ t h. column W Q α r a b t ∙ ap (mul (weight O r b t)) (sym (row W (ℓ + 1) t Q (λ q. taylor O α q a) h)))
+      hasse-weights O L W ℓ Q α r a b
+      ∙ total-ext O L (ℓ + 1) _ _ (λ t h. ap (mul (weight O r b t)) (column W Q α a t ∙ sym (row W (ℓ + 1) t Q (λ q. taylor O α q a) h)))
       ∙ sym (taylor-total r (map (λ q. taylor O α q a) (rows W (ℓ + 1) Q)) b (ℓ + 1) (omega (arith, rows-length W (ℓ + 1) Q (λ q. taylor O α q a))))

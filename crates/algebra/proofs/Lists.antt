@@ -1,9 +1,9 @@
--- How map passes through the list functions of rules.
-use mathlib.Core.Path.{_≡_, refl, sym, _∙_, ap, ap₂, fun-ext}
-use mathlib.Core.Bool.{Bool, true, false, cond, not, _&&_}
-use mathlib.Core.List.{List, [], _∷_, _++_, map, flatMap, zipWith}
+-- How map and length pass through the list functions of rules.
+use mathlib.Core.Path.{_≡_, refl, _∙_, ap, ap₂}
+use mathlib.Core.Bool.{Bool, true, false, cond, _&&_}
+use mathlib.Core.List.{List, [], _∷_, _++_, map, flatMap}
 use Prim.Native.Nat.{ℕ, zero, suc, _+_}
-use lib.ListN.{length, take, drop, getD}
+use lib.ListN.{length, take, drop, length-append}
 use Rattle.rules.specs.Lists.{all, keep, sum}
 use Rattle.rules.specs.Search.{rows, merge, width, rest}
 
@@ -79,3 +79,8 @@ pub map-flatMap : {A B C D : Type 0} (φ : A → C) (ψ : B → D) (w : A → Li
 unfolding flatMap
 map-flatMap φ ψ w v h [] = refl
 map-flatMap φ ψ w v h (x ∷ xs) = map-append ψ (w x) (flatMap w xs) ∙ ap₂ _++_ (h x) (map-flatMap φ ψ w v h xs)
+
+pub length-flatMap : {A B : Type 0} (f : A → List B) (xs : List A) → length (flatMap f xs) ≡ sum (λ x. length (f x)) xs
+unfolding sum flatMap
+length-flatMap f [] = refl
+length-flatMap f (x ∷ xs) = length-append (f x) (flatMap f xs) ∙ ap (_+_ (length (f x))) (length-flatMap f xs)

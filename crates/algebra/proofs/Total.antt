@@ -1,7 +1,8 @@
 -- Sums of symbols over the numbers below n: what is added up may be rewritten, taken apart, multiplied and begun from its front.
 use mathlib.Core.Path.{_≡_, refl, sym, _∙_, ap, ap₂}
-use Prim.Native.Nat.{ℕ, zero, suc, _<_}
+use Prim.Native.Nat.{ℕ, zero, suc, _<_, _≤_}
 use native.Mathlib.Omega.{arith}
+use native.Mathlib.Decide.{ℕ-discrete}
 use Rattle.rules.specs.Field.{Ops}
 use Rattle.rules.specs.Laws.{Laws}
 use Rattle.rules.specs.Curve.{total}
@@ -34,3 +35,13 @@ module _ (O : Ops) (L : Laws O) where
   unfolding total
   total-add zero f g = sym (L .add-nil nil)
   total-add (suc n) f g = ap (λ x. add x (add (f n) (g n))) (total-add n f g) ∙ simp (L .add-assoc, add-left-comm O L)
+
+  -- the last summands are zero
+  pub total-cut : (m n : ℕ) (f : ℕ → Symbol) → m ≤ n → ((i : ℕ) → m ≤ i → i < n → f i ≡ nil) → total O n f ≡ total O m f
+  unfolding total
+  total-cut m zero f l h = let e : m ≡ 0 = omega arith in rw e
+  total-cut m (suc n) f l h = go (ℕ-discrete m (suc n)) (λ k. total-cut m n f k (λ i a b. h i a (omega arith)))
+    where
+      go : Dec (m ≡ suc n) → (m ≤ n → total O n f ≡ total O m f) → add (total O n f) (f n) ≡ total O m f
+      go (yes e) ih = rw e
+      go (no e) ih = ap₂ add (ih (omega arith)) (h n (omega arith) (omega arith)) ∙ L .add-nil _

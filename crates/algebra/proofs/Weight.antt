@@ -1,5 +1,6 @@
 -- The weights made by the recurrence are the binomials and powers of rules' Hasse derivatives.
 use mathlib.Core.Path.{_≡_, refl, sym, _∙_, ap, ap₂}
+use mathlib.Core.List.{List}
 use mathlib.Core.Logic.{by-cases}
 use Prim.Native.Nat.{ℕ, zero, suc, _+_, _-_, _<_}
 use native.Mathlib.Nat.{sub-zero, suc-sub-suc}
@@ -7,9 +8,10 @@ use native.Mathlib.Decide.{decLt}
 use native.Mathlib.Omega.{arith}
 use Rattle.rules.specs.Field.{Ops}
 use Rattle.rules.specs.Laws.{Laws}
-use Rattle.rules.specs.Curve.{binomial, power}
+use Rattle.rules.specs.Curve.{binomial, power, total, coefficient, hasse}
 use Rattle.algebra.specs.Conditions.{weight}
 use Rattle.algebra.proofs.Ring.{mul-left-comm, add-mul, mul-nil, nil-mul, of-add, of-one}
+use Rattle.algebra.proofs.Total.{total-ext, total-mul}
 
 binomial-low : (i a : ℕ) → i < a → binomial i a ≡ 0
 unfolding binomial
@@ -54,3 +56,14 @@ module _ (O : Ops) (L : Laws O) where
       ap₂ add (ap (mul α) (weight-binomial α (suc a) i) ∙ sym (lift α a i)) (weight-binomial α a i)
       ∙ L .add-comm _ _ ∙ sym (add-mul O L _ _ _)
       ∙ ap₂ (λ x n. mul x (power O α n)) (sym (of-add O L (binomial i a) (binomial i (suc a)))) (sym (suc-sub-suc i a))
+
+  regroup : (s t c u v : Symbol) → mul s (mul t (mul c (mul u v))) ≡ mul (mul t v) (mul (mul s u) c)
+  regroup s t c u v = simp (L .mul-assoc, mul-left-comm O L, L .mul-comm)
+
+  -- a Hasse derivative with the weights
+  pub hasse-weights : (W ℓ : ℕ) (Q : List Symbol) (α r : Symbol) (a b : ℕ) →
+      hasse O W ℓ Q α r a b ≡ total O (ℓ + 1) (λ t. mul (weight O r b t) (total O W (λ i. mul (weight O α a i) (coefficient O W Q i t))))
+  unfolding hasse
+  hasse-weights W ℓ Q α r a b =
+      total-ext O L (ℓ + 1) _ _ (λ t h. total-ext O L W _ _ (λ i l. regroup _ _ _ _ _
+      ∙ ap₂ (λ v x. mul v (mul x (coefficient O W Q i t))) (sym (weight-binomial r b t)) (sym (weight-binomial α a i))) ∙ total-mul O L W (weight O r b t) _)

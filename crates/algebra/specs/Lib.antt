@@ -2,4 +2,5 @@ pub mod Poly
 pub mod Points
 pub mod Hom
 pub mod Conditions
+pub mod Space
 pub mod Search

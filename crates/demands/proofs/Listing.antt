@@ -53,7 +53,7 @@ module _ (q : ℕ) (m : T (modulus q)) where
       ap (sifted (ops q) a (triples 1 points word)) (sym (messages-hom F (ops q) value (value-hom q m h) k)) ∙ sifted-values a (triples 1 points word) (messages F k)
       ∙ ap (λ zs. map (map value) (sifted F a zs (messages F k))) (triples-hom e 1 points word)
 
-  passes-elts : (k w l s : ℕ) (points word Q : List ℕ) → passes (ops q) k w l (triples s points word) Q ≡ passes F k w l (triples s (map e points) (map e word)) (map e Q)
+  pub passes-elts : (k w l s : ℕ) (points word Q : List ℕ) → passes (ops q) k w l (triples s points word) Q ≡ passes F k w l (triples s (map e points) (map e word)) (map e Q)
   passes-elts k w l s points word Q = passes-hom (ops q) F e (elt-hom q m h) k w l (triples s points word) Q ∙ ap (λ zs. passes F k w l zs (map e Q)) (triples-hom e s points word)
 
   pub listed-is-readings : (k s a l : ℕ) (points word Q : List ℕ) → 0 < k → 0 < s → T (all (λ x. ltb x q) points) → T (distinct eqb points) →
