@@ -1,0 +1,77 @@
+-- copy_within: the first i numbers of the run are those of the other, which is not written.
+use Prim.Native.Nat.{_+_, _-_, _≤_}
+use lib.ListN.{getD}
+use Rattle.buffers.specs.Change.{Changed}
+use Rattle.buffers.proofs.Change.{changed-more, changed-to}
+use Rattle.within.proofs.Read.{read-apart}
+use native.Mathlib.Omega.{arith}
+use borrow.Author.Needs.{needs}
+use Rattle.within.proofs.copy_within.Statement.{statement}
+use Rattle.within.proofs.copy_within.Tie as tie
+
+abbrev Inv-loop : tie.InvT-loop
+Inv-loop work₀ a b n i₀ work i = (i ≤ n) × Changed (λ k. getD work₀ (a + k) 0) b i work₀ work
+
+abbrev μ-loop : tie.MeasureT-loop
+μ-loop work₀ a b n i₀ work i = n - i
+
+loop-holds : tie.Need-loop-holds Inv-loop μ-loop
+loop-holds c = search needs
+
+add-x : tie.Need-add-x Inv-loop μ-loop
+add-x c = search needs
+
+mul-x : tie.Need-mul-x Inv-loop μ-loop
+mul-x c = search needs
+
+slice-read-x : tie.Need-slice-read-x Inv-loop μ-loop
+slice-read-x c = search needs
+
+add-work : tie.Need-add-work Inv-loop μ-loop
+add-work c = search needs
+
+mul-work : tie.Need-mul-work Inv-loop μ-loop
+mul-work c = search needs
+
+slice-write-work : tie.Need-slice-write-work Inv-loop μ-loop
+slice-write-work c = search needs
+
+add-i : tie.Need-add-i Inv-loop μ-loop
+add-i c = search needs
+
+loop-less : tie.Need-loop-less Inv-loop μ-loop
+loop-less c = search needs
+
+loop-again : tie.Need-loop-again Inv-loop μ-loop
+loop-again c =
+    let l = c .before .before .loop in
+    let x = c .before .before .before .args in (
+      search needs,
+      changed-more (x .b + l .i) _ (l .inv .1) (omega arith) (search needs)
+          (read-apart (x .a) (x .b) (x .n) (l .i) (l .inv .1) (c .before .before .before .pre .0) (l .i) (omega arith) (omega arith)),
+    )
+
+same-length : tie.Need-same-length Inv-loop μ-loop
+same-length c = search needs
+
+returns : tie.Need-returns Inv-loop μ-loop
+returns c = changed-to (c .before .loop .inv .1) (omega arith)
+
+pub copy-within-spec : {M : Type 1} → statement M
+copy-within-spec =
+    tie.close
+    (tie.spec
+    Inv-loop
+    μ-loop
+    loop-holds
+    add-x
+    mul-x
+    slice-read-x
+    add-work
+    mul-work
+    slice-write-work
+    add-i
+    loop-less
+    loop-again
+    same-length
+    returns)

@@ -1,0 +1,59 @@
+-- eval: the sum is the value of what stands from i on.
+use mathlib.Core.Path.{_≡_, ap, _∙_}
+use Prim.Native.Nat.{ℕ, _-_, _≤_}
+use lib.ListN.{length, getD, drop}
+use Rattle.rules.specs.Code.{eval}
+use Rattle.rules.specs.Field.{ops, plus, times}
+use Rattle.within.proofs.Read.{eval-none, eval-more, eval-all}
+use native.Mathlib.Omega.{arith}
+use borrow.Author.Needs.{needs}
+use Rattle.within.proofs.eval.Statement.{statement}
+use Rattle.within.proofs.eval.Tie as tie
+
+abbrev Inv-loop : tie.InvT-loop
+Inv-loop q f x sum₀ i₀ sum i = (i ≤ length f) × (sum ≡ eval (ops q) (drop i f) x)
+
+abbrev μ-loop : tie.MeasureT-loop
+μ-loop q f x sum₀ i₀ sum i = i
+
+loop-holds : tie.Need-loop-holds Inv-loop μ-loop
+loop-holds c = (search needs, eval-none (c .before .args .q) (c .before .args .f .now) (c .before .args .x))
+
+sub-i : tie.Need-sub-i Inv-loop μ-loop
+sub-i c = search needs
+
+mul-mixed : tie.Need-mul-mixed Inv-loop μ-loop
+mul-mixed c = search needs
+
+shared-slice-read-mixed : tie.Need-shared-slice-read-mixed Inv-loop μ-loop
+shared-slice-read-mixed c = search needs
+
+mixed-requires : tie.Need-mixed-requires Inv-loop μ-loop
+mixed-requires c κs = search needs
+
+loop-less : tie.Need-loop-less Inv-loop μ-loop
+loop-less c = search needs
+
+loop-again : tie.Need-loop-again Inv-loop μ-loop
+loop-again c =
+    let l = c .before .before .before .loop in
+    let x = c .before .before .before .before .before .args in
+    (search needs, c .mixed .ensures ∙ ap (λ (v : ℕ). plus (x .q) (getD (x .f .now) (l .i - 1) 0) (times (x .q) (x .x) v)) (l .inv .1) ∙ eval-more (x .q) (x .f .now) (x .x) (l .i) (omega arith) (omega arith))
+
+returns : tie.Need-returns Inv-loop μ-loop
+returns c = c .before .loop .inv .1 ∙ eval-all (c .before .before .before .args .q) (c .before .before .before .args .f .now) (c .before .before .before .args .x) (c .before .loop .i) (omega arith)
+
+pub eval-spec : {M : Type 1} → statement M
+eval-spec =
+    tie.close
+    (tie.spec
+    Inv-loop
+    μ-loop
+    loop-holds
+    sub-i
+    mul-mixed
+    shared-slice-read-mixed
+    mixed-requires
+    loop-less
+    loop-again
+    returns)

@@ -1,0 +1,100 @@
+// Runs of symbols inside one lent buffer, modulo q, which names a field; and a polynomial's value.
+ghost use mathlib.Core.Logic.{_⊎_};
+ghost use mathlib.Core.Path.{_≡_};
+ghost use Prim.Native.Nat.{_+_, _≤_};
+ghost use lib.Dec.{T};
+ghost use lib.ListN.{length, getD};
+ghost use Rattle.rules.specs.Code.{eval as value-at};
+ghost use Rattle.rules.specs.Field.{ops, modulus};
+ghost use Rattle.buffers.specs.Change.{Changed};
+ghost use Rattle.within.specs.Runs.{Apart, added, shifted, moved, cut};
+use field::symbols::mixed;
+
+// The run of n from b on becomes itself plus c times the run from a on.
+pub fn add_within(q: u16, c: u16, work: &mut [u16], a: usize, b: usize, n: usize)
+    requires { ⌜ T (modulus q) × Apart a b n × (a + n ≤ length (now work)) × (b + n ≤ length (now work)) ⌝ }
+    ensures { λ _. ⌜ Changed (added q c (now (work .entry)) a b) b n (now (work .entry)) (now (work .exit)) ⌝ }
+{
+    let mut i: usize = 0;
+    while i < n {
+        let x = work[a + i];
+        let y = work[b + i];
+        work[b + i] = mixed(q, y, c, x);
+        i += 1;
+    }
+}
+
+// The run of n from b on becomes x times itself plus c times the run from a on, cut to n places. With a = b it is multiplied by x + c.
+pub fn shift_add(q: u16, c: u16, work: &mut [u16], a: usize, b: usize, n: usize)
+    requires { ⌜ T (modulus q) × ((a ≡ b) ⊎ Apart a b n) × (a + n ≤ length (now work)) × (b + n ≤ length (now work)) ⌝ }
+    ensures { λ _. ⌜ Changed (shifted q c (now (work .entry)) a b) b n (now (work .entry)) (now (work .exit)) ⌝ }
+{
+    let mut last: u16 = 0;
+    let mut i: usize = 0;
+    while i < n {
+        let x = work[a + i];
+        let y = work[b + i];
+        work[b + i] = mixed(q, last, c, x);
+        last = y;
+        i += 1;
+    }
+}
+
+// The run of n from b on becomes x times itself, cut to n places.
+pub fn shift(work: &mut [u16], b: usize, n: usize)
+    requires { ⌜ b + n ≤ length (now work) ⌝ }
+    ensures { λ _. ⌜ Changed (moved (now (work .entry)) b) b n (now (work .entry)) (now (work .exit)) ⌝ }
+{
+    let mut last: u16 = 0;
+    let mut i: usize = 0;
+    while i < n {
+        let y = work[b + i];
+        work[b + i] = last;
+        last = y;
+        i += 1;
+    }
+}
+
+// The run of n from b on becomes the run from a on.
+pub fn copy_within(work: &mut [u16], a: usize, b: usize, n: usize)
+    requires { ⌜ Apart a b n × (a + n ≤ length (now work)) × (b + n ≤ length (now work)) ⌝ }
+    ensures { λ _. ⌜ Changed (λ i. getD (now (work .entry)) (a + i) 0) b n (now (work .entry)) (now (work .exit)) ⌝ }
+{
+    let mut i: usize = 0;
+    while i < n {
+        let x = work[a + i];
+        work[b + i] = x;
+        i += 1;
+    }
+}
+
+// The run of n from b on becomes the run from a on, from its place v on, with zeros behind.
+pub fn strip_run(work: &mut [u16], a: usize, b: usize, v: usize, n: usize)
+    requires { ⌜ Apart a b n × (v ≤ n) × (a + n ≤ length (now work)) × (b + n ≤ length (now work)) ⌝ }
+    ensures { λ _. ⌜ Changed (cut (now (work .entry)) a v n) b n (now (work .entry)) (now (work .exit)) ⌝ }
+{
+    let mut i: usize = 0;
+    while i < n {
+        let mut x: u16 = 0;
+        if v < n - i {
+            let j = i + v;
+            x = work[a + j];
+        }
+        work[b + i] = x;
+        i += 1;
+    }
+}
+
+// The value at x of the polynomial f.
+pub fn eval(q: u16, f: &[u16], x: u16) -> u16
+    requires { ⌜ T (modulus q) ⌝ }
+    ensures { λ r. ⌜ r ≡ value-at (ops q) (now (f .entry)) x ⌝ }
+{
+    let mut sum: u16 = 0;
+    let mut i = f.len();
+    while 0 < i {
+        i -= 1;
+        sum = mixed(q, f[i], x, sum);
+    }
+    sum
+}
