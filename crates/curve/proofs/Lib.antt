@@ -1,0 +1,3 @@
+pub mod Weights
+pub mod Pairing
+pub mod Triples
