@@ -1,0 +1,4 @@
+pub mod Slot
+pub mod Scan
+pub mod Sweep
+pub mod Seed

@@ -1,0 +1,3 @@
+// Kötter's algorithm: of the curves through every triple the least.
+pub mod slots;
+pub mod step;
