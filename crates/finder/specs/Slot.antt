@@ -1,9 +1,12 @@
 -- Curves in one buffer. Curve j stands in slot j; a slot has (ℓ+1)·W numbers, and the coefficient of x^i·y^t stands at place t·W + i of it.
 use mathlib.Core.Path.{_≡_}
+use mathlib.Core.Bool.{cond}
 use mathlib.Core.List.{List}
 use Prim.Native.Nat.{ℕ, _+_, _-_, _*_, _<_, _≤_}
-use lib.ListN.{length, getD}
+use lib.Dec.{ltb}
+use lib.ListN.{length, getD, take, drop}
 use Rattle.rules.specs.Field.{minus, times, plus}
+use Rattle.curve.specs.Value.{pairing}
 use Rattle.within.specs.Runs.{shifted}
 
 -- the numbers of a curve
@@ -43,3 +46,11 @@ pub record Swept (q k w l p over : ℕ) (values : List ℕ) (n : ℕ) (d e : Lis
   pub new : (j t i : ℕ) → j < n → ¬ (getD values j 0 ≡ 0) → t < l + 1 → i + t * (k - 1) < w →
       getD e (j * slot w l + place w t i) 0 ≡ mixed-at q (share q over (getD values j 0)) w d (p * slot w l) (j * slot w l) t i
   pub keep : (m : ℕ) → ((j t i : ℕ) → j < n → ¬ (getD values j 0 ≡ 0) → t < l + 1 → i + t * (k - 1) < w → ¬ (m ≡ j * slot w l + place w t i)) → getD e m 0 ≡ getD d m 0
+
+-- the numbers of curve j
+abbrev pub curve-at : ℕ → ℕ → List ℕ → ℕ → List ℕ
+curve-at w l work j = take (slot w l) (drop (j * slot w l) work)
+
+-- the value of curve j, where it is alive: x and y are the weights of the condition
+abbrev pub valued : ℕ → ℕ → ℕ → ℕ → List ℕ → List ℕ → List ℕ → List ℕ → ℕ → ℕ
+valued q k w l x y leads work j = cond (ltb (getD leads j 0 + j * (k - 1)) w) (pairing q k w l x y (curve-at w l work j)) 0
