@@ -11,7 +11,6 @@ use Rattle.rules.specs.Field.{Ops, ops, plus, times}
 use Rattle.rules.specs.Curve.{total, coefficient}
 use Rattle.algebra.specs.Conditions.{Condition, weight}
 use Rattle.algebra.specs.Space.{space, value}
-use Rattle.demands.specs.Shape.{Shaped}
 use Rattle.field.specs.Runs.{products}
 use Rattle.buffers.proofs.Part.{len-mid, at-mid}
 use Rattle.buffers.proofs.Rows.{row-fits}
@@ -23,9 +22,13 @@ unfolding total
 total-same O zero f g h = refl
 total-same O (suc n) f g h = ap₂ (O .add) (total-same O n f g (λ i l. h i (omega arith))) (h n (omega arith))
 
+-- a part that is lent from s to s + n has n numbers
+pub part-of : {A : Type 0} (f : List ℕ → A) (s n : ℕ) (ys : List ℕ) → f (midOf s (s + n - s) ys) ≡ f (midOf s n ys)
+part-of f s n ys = ap (λ (m : ℕ). f (midOf s m ys)) (add-sub-cancel-left s n)
+
 -- row t lies in the curve, and a part of it in the space
-pub row-inside : {q k w l t : ℕ} → Shaped q k w l → t ≤ l → (t * (k - 1) < w) × (t * w + w ≤ (l + 1) * w)
-row-inside {q} {k} {w} {l} {t} s h = (omega (arith, s .fits, mul-le-mul-right (k - 1) h), row-fits w (omega arith))
+pub row-inside : (k w l t : ℕ) → l * (k - 1) < w → t ≤ l → (t * (k - 1) < w) × (t * w + w ≤ (l + 1) * w)
+row-inside k w l t s h = (omega (arith, mul-le-mul-right (k - 1) h), row-fits w (omega arith))
 
 -- the two parts that a dot product is taken of are equally long
 pub parts-long : (n at : ℕ) (x c : List ℕ) → n ≤ length x → at + n ≤ length c → (length (midOf 0 (n - 0) x) ≡ n) × (length (midOf at (at + n - at) c) ≡ n)

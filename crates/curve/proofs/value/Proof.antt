@@ -23,37 +23,37 @@ loop-holds c =
     (search needs, search needs, search needs, pairing-none (x .q) (x .k) (x .w) (x .x .now) (x .y .now) (x .curve .now))
 
 sub-n : tie.Need-sub-n Inv-loop μ-loop
-sub-n c = omega (arith, row-inside (c .before .before .before .before .before .pre .0) (c .loop-test .taken))
+sub-n c = omega (arith, row-inside _ _ _ _ (c .before .before .before .before .before .pre .0 .fits) (c .loop-test .taken))
 
 add-e : tie.Need-add-e Inv-loop μ-loop
-add-e c = omega (arith, row-inside (c .before .before .before .before .before .pre .0) (c .loop-test .taken))
+add-e c = omega (arith, row-inside _ _ _ _ (c .before .before .before .before .before .pre .0 .fits) (c .loop-test .taken))
 
 sub-dot : tie.Need-sub-dot Inv-loop μ-loop
-sub-dot c = omega (arith, row-inside (c .before .before .before .before .before .pre .0) (c .loop-test .taken))
+sub-dot c = omega (arith, row-inside _ _ _ _ (c .before .before .before .before .before .pre .0 .fits) (c .loop-test .taken))
 
 part-dot-start : tie.Need-part-dot-start Inv-loop μ-loop
-part-dot-start c = omega (arith, row-inside (c .before .before .before .before .before .pre .0) (c .loop-test .taken))
+part-dot-start c = omega (arith, row-inside _ _ _ _ (c .before .before .before .before .before .pre .0 .fits) (c .loop-test .taken))
 
 part-dot-end : tie.Need-part-dot-end Inv-loop μ-loop
-part-dot-end c = omega (arith, row-inside (c .before .before .before .before .before .pre .0) (c .loop-test .taken))
+part-dot-end c = omega (arith, row-inside _ _ _ _ (c .before .before .before .before .before .pre .0 .fits) (c .loop-test .taken))
 
 mul-dot : tie.Need-mul-dot Inv-loop μ-loop
-mul-dot c = omega (arith, row-inside (c .before .before .before .before .before .before .pre .0) (c .before .loop-test .taken))
+mul-dot c = omega (arith, row-inside _ _ _ _ (c .before .before .before .before .before .before .pre .0 .fits) (c .before .loop-test .taken))
 
 sub-dot-2 : tie.Need-sub-dot-2 Inv-loop μ-loop
-sub-dot-2 c = omega (arith, row-inside (c .before .before .before .before .before .before .pre .0) (c .before .loop-test .taken))
+sub-dot-2 c = omega (arith, row-inside _ _ _ _ (c .before .before .before .before .before .before .pre .0 .fits) (c .before .loop-test .taken))
 
 part-dot-start-2 : tie.Need-part-dot-start-2 Inv-loop μ-loop
-part-dot-start-2 c = omega (arith, row-inside (c .before .before .before .before .before .before .pre .0) (c .before .loop-test .taken))
+part-dot-start-2 c = omega (arith, row-inside _ _ _ _ (c .before .before .before .before .before .before .pre .0 .fits) (c .before .loop-test .taken))
 
 part-dot-end-2 : tie.Need-part-dot-end-2 Inv-loop μ-loop
-part-dot-end-2 c = omega (arith, row-inside (c .before .before .before .before .before .before .pre .0) (c .before .loop-test .taken))
+part-dot-end-2 c = omega (arith, row-inside _ _ _ _ (c .before .before .before .before .before .before .pre .0 .fits) (c .before .loop-test .taken))
 
 dot-requires : tie.Need-dot-requires Inv-loop μ-loop
 dot-requires c κs =
     let l = c .before .before .before .loop in
     let s = c .before .before .before .before .before .before .before in
-    let h = row-inside (s .pre .0) (c .before .before .loop-test .taken) in
+    let h = row-inside _ _ _ _ (s .pre .0 .fits) (c .before .before .loop-test .taken) in
     let p = parts-long (s .args .w - l .off) (l .at) (s .args .x .now) (s .args .curve .now) (omega arith) (omega arith) in
     (s .pre .0 .field, omega arith, omega arith)
 
@@ -67,13 +67,13 @@ mixed-requires : tie.Need-mixed-requires Inv-loop μ-loop
 mixed-requires c κs = search needs
 
 add-at : tie.Need-add-at Inv-loop μ-loop
-add-at c = omega (arith, row-inside (c .before .before .before .before .before .before .before .before .before .before .pre .0) (c .before .before .before .before .before .loop-test .taken))
+add-at c = omega (arith, row-inside _ _ _ _ (c .before .before .before .before .before .before .before .before .before .before .pre .0 .fits) (c .before .before .before .before .before .loop-test .taken))
 
 sub-off : tie.Need-sub-off Inv-loop μ-loop
-sub-off c = omega (arith, row-inside (c .before .before .before .before .before .before .before .before .before .before .pre .0) (c .before .before .before .before .before .loop-test .taken))
+sub-off c = omega (arith, row-inside _ _ _ _ (c .before .before .before .before .before .before .before .before .before .before .pre .0 .fits) (c .before .before .before .before .before .loop-test .taken))
 
 add-off : tie.Need-add-off Inv-loop μ-loop
-add-off c = omega (arith, row-inside (c .before .before .before .before .before .before .before .before .before .before .pre .0) (c .before .before .before .before .before .loop-test .taken))
+add-off c = omega (arith, row-inside _ _ _ _ (c .before .before .before .before .before .before .before .before .before .before .pre .0 .fits) (c .before .before .before .before .before .loop-test .taken))
 
 add-t : tie.Need-add-t Inv-loop μ-loop
 add-t c = search needs
@@ -86,7 +86,7 @@ loop-again c =
     let l = c .before .before .before .before .before .before .loop in
     let s = c .before .before .before .before .before .before .before .before .before .before in
     let x = s .args in
-    let h = row-inside (s .pre .0) (c .before .before .before .before .before .loop-test .taken) in (
+    let h = row-inside _ _ _ _ (s .pre .0 .fits) (c .before .before .before .before .before .loop-test .taken) in (
       search needs,
       omega (arith, row-end (l .t) (x .w)),
       omega (arith, row-end (l .t) (x .k - 1)),
