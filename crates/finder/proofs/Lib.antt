@@ -5,3 +5,7 @@ pub mod Seed
 pub mod Values
 pub mod Turn
 pub mod Keep
+pub mod Grow
+pub mod Triples
+pub mod Begin
+pub mod Finish

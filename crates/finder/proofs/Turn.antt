@@ -11,7 +11,7 @@ use Rattle.finder.specs.Slot.{slot, place, share, mixed-at, raised-at, T
 use Rattle.finder.proofs.Sweep.{slot-eq}
 
 -- places of one slot that are the same are those of the same term
-place-eq : (w at : ℕ) {t t′ i i′ : ℕ} → i < w → i′ < w → at + place w t i ≡ at + place w t′ i′ → (t ≡ t′) × (i ≡ i′)
+pub place-eq : (w at : ℕ) {t t′ i i′ : ℕ} → i < w → i′ < w → at + place w t i ≡ at + place w t′ i′ → (t ≡ t′) × (i ≡ i′)
 place-eq w at {t} {t′} {i} {i′} a b e = digit-eq w t i t′ i′ a b (omega arith)
 
 module _ (q k w l p over c : ℕ) {values d e f : List ℕ} (z : getD values p 0 ≡ 0) (W : Swept q k w l p over values (l + 1) d e)

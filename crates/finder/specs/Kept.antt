@@ -55,6 +55,10 @@ pub record Met (q k w l α : ℕ) (x y leads leads′ work work′ : List ℕ) :
       let c = carry (elt q h) (record { point = α; symbol = r; a = a; b = b }) in
       Ready cs c → Kept q h k w l cs leads work → Kept q h k w l (cs ++ (c ∷ [])) leads′ work′
 
+-- a point, a symbol and a multiplicity as a triple of the field
+abbrev pub triple : (q : ℕ) → 1 < q → ℕ → ℕ → ℕ → Triple (Fin q)
+triple q h α r m = move (elt q h) (record { point = α; symbol = r; times = m })
+
 -- the curve found: of all that pass, the least
 pub record Found (q k w l : ℕ) (zs : List (Triple ℕ)) (Q : List ℕ) : Type 0 where
   pub small : T (under q Q)
