@@ -8,4 +8,5 @@ mod Encoding
 mod Shape
 mod Times
 mod Checking
+mod Finding
 pub mod Unique

@@ -2,10 +2,13 @@
 use mathlib.Core.Bool.{Bool}
 use mathlib.Core.List.{List}
 use Prim.Native.Nat.{ℕ}
-use Rattle.rules.specs.Outcome.{Encoded, Checked}
+use Rattle.rules.specs.Outcome.{Encoded, Checked, Finding}
 
 abbrev pub encoded : ℕ → List ℕ → Encoded
 encoded refusal output = record { refusal = refusal; output = output }
 
 abbrev pub checked : ℕ → Bool → Checked
 checked refusal answer = record { refusal = refusal; yes = answer }
+
+abbrev pub finding : ℕ → ℕ → ℕ → List ℕ → List ℕ → Finding
+finding refusal found tried curve work = record { refusal = refusal; found = found; tried = tried; curve = curve; work = work }

@@ -1,8 +1,8 @@
 // The public calls of document 01. Each tests its refusals in the table's order, and then asks the engine.
 ghost use mathlib.Core.Path.{_≡_};
-ghost use Rattle.rules.specs.Outcome.{encode-call, check-call};
+ghost use Rattle.rules.specs.Outcome.{encode-call, check-call, Finds};
 ghost use Rattle.setting.specs.Call.{asked};
-ghost use Rattle.reader.specs.Calls.{encoded, checked};
+ghost use Rattle.reader.specs.Calls.{encoded, checked, finding};
 
 mod refusals;
 mod tests;
@@ -13,6 +13,13 @@ mod writing;
 pub struct Checked {
     pub refusal: u16,
     pub yes: bool,
+}
+
+// What finding, listing and reading answer: the refusal number or 0, and the list length and the beginnings tried, which are 0 where they refuse.
+pub struct Outcome {
+    pub refusal: u16,
+    pub found: usize,
+    pub tried: usize,
 }
 
 // Writing a patch: the values of the message's polynomial at the points, n numbers at the front of the output. The answer is the refusal number, or 0.
@@ -65,4 +72,54 @@ pub fn check(
         refusal: 0,
         yes: word::fits(p as u16, k, d.w, d.l, s as u16, points, word, curve),
     }
+}
+
+// No list, and no beginnings.
+fn empty(number: u16) -> Outcome
+    ensures { λ r. ⌜ (r .refusal ≡ number) × (r .found ≡ 0) × (r .tried ≡ 0) ⌝ }
+{
+    Outcome {
+        refusal: number,
+        found: 0,
+        tried: 0,
+    }
+}
+
+// Writes a curve that passes for the word to the front of the curve buffer.
+pub fn find(
+    p: usize,
+    n: usize,
+    k: usize,
+    s: usize,
+    tau: usize,
+    points: &[u16],
+    word: &[u16],
+    curve: &mut [u16],
+    work: &mut [u16],
+) -> Outcome
+    ensures { λ r. ⌜ Finds (asked p n k s tau) (now (points .entry)) (now (word .entry)) (now (curve .entry)) (now (work .entry)) (finding (r .refusal) (r .found) (r .tried) (now (curve .exit)) (now (work .exit))) ⌝ }
+{
+    let d = setting::derive(p, n, k, s, tau);
+    if d.refusal != 0 {
+        return empty(d.refusal);
+    }
+    let size = (d.l + 1) * d.w;
+    let room = d.r;
+    let short = tests::either_short(curve.len(), size, work.len(), room);
+    let number = refusals::of_word(p, n, points, word, short);
+    if number != 0 {
+        return empty(number);
+    }
+    word::find(
+        p as u16,
+        k,
+        d.w,
+        d.l,
+        s as u16,
+        points,
+        word,
+        &mut curve[0..size],
+        &mut work[0..room],
+    );
+    empty(0)
 }

@@ -51,7 +51,7 @@ slice-aggregate-meet-all : tie.Need-slice-aggregate-meet-all
 slice-aggregate-meet-all c = search needs
 
 meet-all-requires : tie.Need-meet-all-requires
-meet-all-requires c κs = let p = c .before .before .before .before .before .before .before .before .before .before .before .pre .0 in (p .shape, p .symbols, p .orders, p .few, omega (arith, p .shape .few), λ j u. rw (getD-replicate {A = ℕ} 25 j 0 0 (omega (arith, p .shape .few))) (omega (arith, off-fits (p .shape) u)), omega (arith, c .before .before .before .before .before .before .before .before .before .before .before .pre .1, c .before .before .before .before .start .kept .1 .1 .1 .1 .0))
+meet-all-requires c κs = let p = c .before .before .before .before .before .before .before .before .before .before .before .pre .0 in (p .shape, p .symbols, p .multiplicities, p .few, omega (arith, p .shape .few), λ j u. rw (getD-replicate {A = ℕ} 25 j 0 0 (omega (arith, p .shape .few))) (omega (arith, off-fits (p .shape) u)), omega (arith, c .before .before .before .before .before .before .before .before .before .before .before .pre .1, c .before .before .before .before .start .kept .1 .1 .1 .1 .0))
 
 slice-aggregate-pivot : tie.Need-slice-aggregate-pivot
 slice-aggregate-pivot c = search needs

@@ -5,7 +5,7 @@ use Rattle.setting.specs.Call.{asked}
 use Rattle.setting.specs.Accepted.{Taken}
 use Rattle.setting.proofs.Taken.{refusal-is, taken}
 use Rattle.reader.proofs.Pair.{proposed}
-use Rattle.reader.proofs.Shape.{shaped, size-is}
+use Rattle.reader.proofs.Shape.{worded, size-is}
 use Rattle.reader.proofs.Checking.{setting-refuses-check, check-rest, check-refused, check-accepted, fits-is}
 use native.Mathlib.Omega.{arith}
 use borrow.Author.Needs.{needs}
@@ -73,7 +73,7 @@ fits-requires c κs =
     let d = c .before .before .before .before .before .before .derive .result in
     let h = taken S d (c .before .before .before .before .before .before .derive .ensures) (c .before .before .before .before .if1 .left) in
     let g = proposed _ _ _ _ _ _ (sym (c .before .of-proposed .ensures) ∙ c .if2 .left) in
-    (shaped h, h .accepted .passed .ranged .s-most, omega (arith, g .given .points-long, h .accepted .passed .ranged .code .n-most), g .given .symbols-long ∙ sym (g .given .points-long), g .curve-long, g .curve-under)
+    (worded h (g .given), g .curve-long, g .curve-under)
 
 returns-3 : tie.Need-returns-3
 returns-3 c =

@@ -18,16 +18,14 @@ part-passes-end c = search needs
 
 passes-requires : tie.Need-passes-requires
 passes-requires c κs =
-    let x = c .before .before .before .before .before .args in
     let h = c .before .before .before .before .before .pre in
-    (checkable _ _ (x .word .now) (h .2) (h .3) (h .0) (h .1) _ (h .4), h .5)
+    (checkable (h .0) _ (h .1), h .2)
 
 returns : tie.Need-returns
 returns c =
     let x = c .before .before .before .before .before .before .args in
-    let h = c .before .before .before .before .before .before .pre in
     c .passes .ensures
-    ∙ ap (λ zs. passes (ops (x .q)) (x .k) (x .w) (x .l) zs (x .curve .now)) (times-triples (x .s) (x .points .now) (x .word .now) (h .2) (h .3))
+    ∙ ap (λ zs. passes (ops (x .q)) (x .k) (x .w) (x .l) zs (x .curve .now)) (times-triples (c .before .before .before .before .before .before .pre .0))
 
 pub fits-spec : {M : Type 1} → statement M
 fits-spec =
