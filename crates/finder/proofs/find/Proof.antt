@@ -1,9 +1,9 @@
 -- find: the start is a basis, every condition keeps it, and the pivot of all alive curves is the chosen one.
-use mathlib.Core.Path.{_≡_, ap, subst, _∙_}
+use mathlib.Core.Path.{_≡_, ap, _∙_}
 use mathlib.Core.List.{[], map}
 use Prim.Native.Nat.{ℕ, _+_, _-_, _*_, _<_, _≤_}
 use native.Mathlib.Nat.{add-sub-cancel-left}
-use lib.ListN.{length, getD, take, drop, replicate, getD-replicate}
+use lib.ListN.{length, take, drop, replicate, getD-replicate}
 use Rattle.algebra.specs.Hom.{move}
 use Rattle.algebra.specs.Conditions.{conditions}
 use Rattle.prime.specs.Field.{elt}
@@ -11,8 +11,8 @@ use Rattle.buffers.proofs.Part.{len-mid}
 use Rattle.buffers.proofs.Rows.{row-fits}
 use Rattle.curve.specs.Triples.{tripled}
 use Rattle.finder.specs.Slot.{slot, curve-at}
-use Rattle.finder.specs.Kept.{Fit, Kept, Found}
-use Rattle.finder.proofs.Slot.{off-fits}
+use Rattle.finder.specs.Kept.{Kept, Found}
+use Rattle.curve.proofs.Pairing.{row-inside}
 use Rattle.finder.proofs.Begin.{kept-start}
 use Rattle.finder.proofs.Finish.{first, found}
 use native.Mathlib.Omega.{arith}
@@ -51,7 +51,7 @@ slice-aggregate-meet-all : tie.Need-slice-aggregate-meet-all
 slice-aggregate-meet-all c = search needs
 
 meet-all-requires : tie.Need-meet-all-requires
-meet-all-requires c κs = let p = c .before .before .before .before .before .before .before .before .before .before .before .pre .0 in (p .shape, p .symbols, p .orders, p .few, omega (arith, p .shape .few), λ j u. rw (getD-replicate {A = ℕ} 25 j 0 0 (omega (arith, p .shape .few))) (omega (arith, off-fits (p .shape) u)), omega (arith, c .before .before .before .before .before .before .before .before .before .before .before .pre .1, c .before .before .before .before .start .kept .1 .1 .1 .1 .0))
+meet-all-requires c κs = let p = c .before .before .before .before .before .before .before .before .before .before .before .pre .0 in (p .shape, p .symbols, p .orders, p .few, omega (arith, p .shape .few), λ j u. rw (getD-replicate {A = ℕ} 25 j 0 0 (omega (arith, p .shape .few))) (omega (arith, row-inside (p .shape) u .0)), omega (arith, c .before .before .before .before .before .before .before .before .before .before .before .pre .1, c .before .before .before .before .start .kept .1 .1 .1 .1 .0))
 
 slice-aggregate-pivot : tie.Need-slice-aggregate-pivot
 slice-aggregate-pivot c = search needs

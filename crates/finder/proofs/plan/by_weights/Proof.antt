@@ -1,7 +1,7 @@
 -- by_weights: the conditions of the first b orders in y are met.
 use mathlib.Core.Path.{_≡_, _∙_}
 use mathlib.Core.List.{flatMap}
-use Prim.Native.Nat.{ℕ, _+_, _-_, _*_, _<_, _≤_}
+use Prim.Native.Nat.{ℕ, _+_, _-_, _*_, _≤_}
 use lib.ListN.{length}
 use Rattle.rules.specs.Lists.{below}
 use Rattle.algebra.specs.Conditions.{conditions-along}

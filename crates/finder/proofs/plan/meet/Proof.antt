@@ -1,5 +1,4 @@
 -- meet: what is said of any weights holds of those made here.
-use native.Mathlib.Omega.{arith}
 use borrow.Author.Needs.{needs}
 use Rattle.finder.proofs.plan.meet.Statement.{statement}
 use Rattle.finder.proofs.plan.meet.Tie as tie

@@ -1,7 +1,7 @@
 -- meet_all: the conditions of the first j triples are met.
 use mathlib.Core.Path.{_≡_, _∙_}
 use mathlib.Core.List.{map}
-use Prim.Native.Nat.{_+_, _-_, _*_, _<_, _≤_}
+use Prim.Native.Nat.{_-_, _≤_}
 use lib.ListN.{length, take}
 use Rattle.algebra.specs.Hom.{move}
 use Rattle.algebra.specs.Conditions.{conditions}

@@ -4,7 +4,8 @@ use mathlib.Core.Logic.{inl, inr, ⊎-elim}
 use Prim.Native.Nat.{_+_, _-_, _*_, _≤_}
 use Rattle.buffers.proofs.Rows.{row-end}
 use Rattle.finder.specs.Slot.{mixed-at, Treated}
-use Rattle.finder.proofs.Slot.{off-fits, row-in, treated-none, reduce-more}
+use Rattle.curve.proofs.Pairing.{row-inside}
+use Rattle.finder.proofs.Slot.{treated-none, reduce-more}
 use native.Mathlib.Omega.{arith}
 use borrow.Author.Needs.{needs}
 use Rattle.finder.proofs.slots.reduce.Statement.{statement}
@@ -20,27 +21,27 @@ loop-holds : tie.Need-loop-holds Inv-loop μ-loop
 loop-holds c = (search needs, search needs, search needs, treated-none _ _ _ _ _)
 
 add-add-within : tie.Need-add-add-within Inv-loop μ-loop
-add-add-within c = omega (arith, row-in (c .before .before .before .before .args .w) {l = c .before .before .before .before .args .l} {t = c .before .before .loop .t} (omega arith))
+add-add-within c = omega (arith, row-inside {t = c .before .before .loop .t} (c .before .before .before .before .pre .0) (omega arith))
 
 add-add-within-2 : tie.Need-add-add-within-2 Inv-loop μ-loop
-add-add-within-2 c = omega (arith, row-in (c .before .before .before .before .args .w) {l = c .before .before .before .before .args .l} {t = c .before .before .loop .t} (omega arith))
+add-add-within-2 c = omega (arith, row-inside {t = c .before .before .loop .t} (c .before .before .before .before .pre .0) (omega arith))
 
 sub-add-within : tie.Need-sub-add-within Inv-loop μ-loop
-sub-add-within c = omega (arith, off-fits (c .before .before .before .before .pre .0) {t = c .before .before .loop .t} (omega arith))
+sub-add-within c = omega (arith, row-inside {t = c .before .before .loop .t} (c .before .before .before .before .pre .0) (omega arith))
 
 add-within-requires : tie.Need-add-within-requires Inv-loop μ-loop
 add-within-requires c κs =
-    let r = row-in (c .before .before .before .before .args .w) {l = c .before .before .before .before .args .l} {t = c .before .before .loop .t} (omega arith) in
+    let r = row-inside {t = c .before .before .loop .t} (c .before .before .before .before .pre .0) (omega arith) in
     (c .before .before .before .before .pre .0 .field, ⊎-elim (λ x. inl (omega arith)) (λ x. inr (omega arith)) (c .before .before .before .before .pre .1), omega arith, omega arith)
 
 add-row : tie.Need-add-row Inv-loop μ-loop
-add-row c = omega (arith, row-in (c .before .before .before .before .before .before .before .args .w) {l = c .before .before .before .before .before .before .before .args .l} {t = c .before .before .before .before .before .loop .t} (omega arith))
+add-row c = omega (arith, row-inside {t = c .before .before .before .before .before .loop .t} (c .before .before .before .before .before .before .before .pre .0) (omega arith))
 
 sub-off : tie.Need-sub-off Inv-loop μ-loop
 sub-off c = search needs
 
 add-off : tie.Need-add-off Inv-loop μ-loop
-add-off c = omega (arith, off-fits (c .before .before .before .before .before .before .before .pre .0) {t = c .before .before .before .before .before .loop .t} (omega arith))
+add-off c = omega (arith, row-inside {t = c .before .before .before .before .before .loop .t} (c .before .before .before .before .before .before .before .pre .0) (omega arith))
 
 add-t : tie.Need-add-t Inv-loop μ-loop
 add-t c = search needs

@@ -7,7 +7,7 @@ use Rattle.buffers.proofs.Change.{changed-none, changed-more, changed-to}
 use Rattle.buffers.proofs.Part.{len-mid}
 use Rattle.buffers.proofs.Rows.{row-end, row-fits}
 use Rattle.finder.specs.Slot.{slot, valued}
-use Rattle.finder.proofs.Slot.{off-fits}
+use Rattle.curve.proofs.Pairing.{row-inside}
 use Rattle.finder.proofs.Values.{valued-dead, valued-part}
 use native.Mathlib.Omega.{arith}
 use borrow.Author.Needs.{needs}
@@ -67,7 +67,7 @@ sub-off : tie.Need-sub-off Inv-loop μ-loop
 sub-off c = search needs
 
 add-off : tie.Need-add-off Inv-loop μ-loop
-add-off c = omega (arith, off-fits (c .before .before .before .before .before .before .before .before .before .before .pre .0) {t = c .before .before .before .loop .j} (omega arith))
+add-off c = omega (arith, row-inside {t = c .before .before .before .loop .j} (c .before .before .before .before .before .before .before .before .before .before .pre .0) (omega arith))
 
 add-j : tie.Need-add-j Inv-loop μ-loop
 add-j c = search needs
