@@ -1,0 +1,4 @@
+pub mod Heads
+pub mod Numbers
+pub mod Stepping
+pub mod Turning

@@ -1,0 +1,2 @@
+// The root search: visiting a beginning and walking its next symbols.
+pub mod slot;
