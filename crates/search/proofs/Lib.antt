@@ -1,4 +1,9 @@
 pub mod Heads
+pub mod Next
+pub mod Nexted
 pub mod Numbers
+pub mod Roots
 pub mod Stepping
+pub mod Turn
 pub mod Turning
+pub mod Walked

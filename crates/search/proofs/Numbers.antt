@@ -1,12 +1,12 @@
 -- The theorems of the search for numbers below q: each is carried from the field by value.
-use mathlib.Core.Path.{_≡_, refl, sym, ap, ap₂, _∙_}
+use mathlib.Core.Path.{_≡_, refl, sym, ap, ap₂, subst, _∙_}
 use mathlib.Core.List.{List, [], _∷_, map}
-use Prim.Native.Nat.{ℕ, zero, suc, _+_, _-_, _*_, _<_, _≤_, _%_, Fin}
-use native.Mathlib.Nat.{mod-eq-of-lt, mul-zero, zero-mod, add-zero}
+use Prim.Native.Nat.{ℕ, zero, suc, _+_, _-_, _*_, _<_, _≤_, _/_, _%_, Fin}
+use native.Mathlib.Nat.{mod-eq-of-lt, mul-zero, zero-mod, add-zero, mod-lt, div-add-mod', div-lt-iff-lt-mul}
 use native.Mathlib.Omega.{arith}
 use lib.Dec.{T}
 use lib.ListN.{length, getD, take, drop, List·getD-map, length-take, length-drop, length-map}
-use lib.Seq.{getD-take, getD-drop}
+use lib.Seq.{getD-take, getD-drop, ext-getD, length-take-le}
 use Rattle.rules.specs.Field.{Ops, ops, plus, times, modulus}
 use Rattle.rules.specs.Search.{rows, stripped, step}
 use Rattle.algebra.specs.Hom.{Hom}
@@ -57,7 +57,7 @@ module _ (q : ℕ) (m : T (modulus q)) where
     abbrev Q′ : List (List (Fin q))
     Q′ = map (map e) Q
 
-    step-value : (u t i : ℕ) → value (cell F (step F (e g) (drop u Q′)) t i) ≡ cell (ops q) (step (ops q) g (drop u Q)) t i
+    pub step-value : (u t i : ℕ) → value (cell F (step F (e g) (drop u Q′)) t i) ≡ cell (ops q) (step (ops q) g (drop u Q)) t i
     step-value u t i =
         cell-hom F (ops q) value (value-hom q m h) (step F (e g) (drop u Q′)) t i
         ∙ ap (λ (P : List (List ℕ)). cell (ops q) P t i) (step-hom F (ops q) value (value-hom q m h) (e g) (drop u Q′)
@@ -109,3 +109,16 @@ module _ (q : ℕ) (m : T (modulus q)) where
 pub plus-none : (q g a : ℕ) → a < q → plus q a (times q g 0) ≡ a
 unfolding plus times
 plus-none q g a l = rw (mul-zero g) (rw (zero-mod q) (rw (add-zero a) (mod-eq-of-lt l)))
+
+-- the index of a slot as a row and a column
+pub by-cell : (w n : ℕ) (P : ℕ → Type 0) → 0 < w → ((t i : ℕ) → t < n → i < w → P (t * w + i)) → (j : ℕ) → j < n * w → P j
+by-cell w n P o f j l = subst P (div-add-mod' j w) (f (j / w) (j % w) (div-lt-iff-lt-mul o .1 l) (mod-lt j o))
+
+pub rows-same : (w n : ℕ) (a b : List ℕ) → n * w ≤ length a → n * w ≤ length b → ((j : ℕ) → j < n * w → getD a j 0 ≡ getD b j 0) → rows w n a ≡ rows w n b
+unfolding rows
+rows-same w zero a b u v h = refl
+rows-same w (suc n) a b u v h = ap₂ _∷_
+    (ext-getD 0 (take w a) (take w b) (length-take-le w a (omega arith) ∙ sym (length-take-le w b (omega arith)))
+    (λ j l. let k : j < w = omega (arith, length-take w a) in getD-take w a j 0 k ∙ h j (omega arith) ∙ sym (getD-take w b j 0 k)))
+    (rows-same w n (drop w a) (drop w b) (omega (arith, length-drop w a)) (omega (arith, length-drop w b))
+    (λ j l. getD-drop w a j 0 ∙ h (w + j) (omega arith) ∙ sym (getD-drop w b j 0)))

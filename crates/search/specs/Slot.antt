@@ -67,3 +67,16 @@ pub record Stripped (w l b : ℕ) (d e : List ℕ) : Type 0 where
   pub v : ℕ
   pub power : Power w l d v
   pub moved : Moved w (l + 1) v b d e
+
+-- the curve in the slot from a on
+abbrev pub curve : ℕ → ℕ → ℕ → List ℕ → List (List ℕ)
+curve w l a d = rows w (l + 1) (run a ((l + 1) * w) d)
+
+-- The slot after the one at a holds the curve of the beginning longer by g: with k symbols still to place, it is searched as the definition's curve is. The slots up to the one at a stay, but for the spare.
+pub record Nexted (q g w l a : ℕ) (d e : List ℕ) : Type 0 where
+  pub len : length e ≡ length d
+  pub kept : (j : ℕ) → (l + 1) * w ≤ j → j < a + (l + 1) * w → getD e j 0 ≡ getD d j 0
+  pub low : Below q (a + (l + 1) * w) ((l + 1) * w) e
+  pub found : (k : ℕ) → Within (ops q) k w (curve w l a d) → found (ops q) k (curve w l (a + (l + 1) * w) e) ≡ found (ops q) k (next (ops q) g (curve w l a d))
+  pub tried : (k : ℕ) → Within (ops q) k w (curve w l a d) → tried (ops q) k (curve w l (a + (l + 1) * w) e) ≡ tried (ops q) k (next (ops q) g (curve w l a d))
+  pub within : (k : ℕ) → Within (ops q) k w (curve w l a d) → Within (ops q) (k - 1) w (curve w l (a + (l + 1) * w) e)

@@ -5,9 +5,10 @@ ghost use lib.Dec.{T};
 ghost use lib.ListN.{length};
 ghost use Rattle.rules.specs.Field.{ops, modulus};
 ghost use Rattle.rules.specs.Search.{rows, follows as may-follow};
-ghost use Rattle.search.specs.Slot.{run, Below, Carried, Turned, Substituted, Tells, Power, Moved, Stripped};
+ghost use Rattle.search.specs.Slot.{run, Below, Carried, Turned, Substituted, Tells, Power, Moved, Stripped, Nexted};
 use field::symbols::mixed;
 use within::add_within;
+use within::copy_within;
 use within::shift;
 use within::shift_add;
 use within::strip_run;
@@ -113,4 +114,15 @@ pub fn follows(q: u16, g: u16, w: usize, l: usize, b: usize, work: &[u16]) -> bo
         sum = mixed(q, work[b + t * w], g, sum);
     }
     sum == 0
+}
+
+// Q(x, x·y + g) stripped, for the curve Q in the slot at a, into the slot after it.
+pub fn next(q: u16, g: u16, w: usize, l: usize, a: usize, work: &mut [u16])
+    requires { ⌜ T (modulus q) × (g < q) × (0 < w) × (l ≤ 24) × ((l + 1) * w ≤ a) × (a + (l + 1) * w + (l + 1) * w ≤ length (now work)) × Below q a ((l + 1) * w) (now work) ⌝ }
+    ensures { λ _. ⌜ Nexted q g w l a (now (work .entry)) (now (work .exit)) ⌝ }
+{
+    let s = (l + 1) * w;
+    copy_within(work, a, 0, s);
+    substitute(q, g, w, l, work);
+    strip(w, l, a + s, work);
 }
