@@ -3,6 +3,7 @@ pub mod Next
 pub mod Nexted
 pub mod Numbers
 pub mod Roots
+pub mod Start
 pub mod Stepping
 pub mod Turn
 pub mod Turning

@@ -57,7 +57,7 @@ module _ (q : ℕ) (m : T (modulus q)) where
     within-elts k s z t i l =
         ap (λ (P : List (List (Fin q))). cell F P t i) (sym (map-rows e w n s)) ∙ sym (cell-hom (ops q) F e (elt-hom q m h) (rows w n s) t i) ∙ ap e (z t i l)
 
-    within-values : (k : ℕ) (s : List ℕ) → Low s → Within F k w (rows w n (map e s)) → Within (ops q) k w (rows w n s)
+    pub within-values : (k : ℕ) (s : List ℕ) → Low s → Within F k w (rows w n (map e s)) → Within (ops q) k w (rows w n s)
     within-values k s b z t i l =
         ap (λ (P : List (List ℕ)). cell (ops q) P t i) (sym (back s b)) ∙ sym (cell-hom F (ops q) value (value-hom q m h) (rows w n (map e s)) t i)
         ∙ ap value (z t i l) ∙ value-hom q m h .nil

@@ -26,7 +26,7 @@ module _ (w l b : ℕ) (d e : List ℕ) (c : Stripped w l b d e) where
   abbrev S : ℕ
   S = (l + 1) * w
 
-  front : (j : ℕ) → j < S → getD (run 0 S d) j 0 ≡ getD d j 0
+  pub front : (j : ℕ) → j < S → getD (run 0 S d) j 0 ≡ getD d j 0
   front j k = run-at 0 S d j k ∙ ap (λ (i : ℕ). getD d i 0) (zero-add j)
 
   pub shifted : Shifted w (l + 1) (run 0 S d) (run b S e)

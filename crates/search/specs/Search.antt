@@ -1,11 +1,14 @@
 -- What the search needs and leaves: the tally, the roots, and the slots and symbols of the beginnings that stay.
-use mathlib.Core.Bool.{Bool, true, false}
+use mathlib.Core.Bool.{Bool, true, false, not}
 use mathlib.Core.List.{List, [], _++_, map, flatten}
 use mathlib.Core.Path.{_≡_}
 use Prim.Native.Nat.{ℕ, _+_, _-_, _*_, _^_, _<_, _≤_}
 use lib.Dec.{T}
 use lib.ListN.{length, getD, take}
+use Rattle.rules.specs.Code.{zeros}
+use Rattle.rules.specs.Curve.{weighted}
 use Rattle.rules.specs.Field.{ops, modulus}
+use Rattle.rules.specs.Search.{rows, beginnings, roots as all-roots}
 use Rattle.algebra.specs.Search.{Within}
 use Rattle.buffers.specs.Change.{Changed}
 use Rattle.search.specs.declared.Sizes.{Sizes}
@@ -57,3 +60,35 @@ pub record Searched (h : Sizes) (left a : ℕ) (work begun roots : List ℕ) (t 
   pub kept : (j : ℕ) → size h ≤ j → j < a + size h → getD work′ j 0 ≡ getD work j 0
   pub beginning : length begun′ ≡ length begun
   pub placed : (j : ℕ) → j < h .k - left → getD begun′ j 0 ≡ getD begun j 0
+
+-- What a search of a curve needs: a field, a curve of its symbols that is not zero and fits its weighted degree, and room for its slots, its roots and its counts.
+pub record Asked (q k w l : ℕ) (curve work roots : List ℕ) (t : Tally) : Type 0 where
+  pub field : T (modulus q)
+  pub symbols : 1 ≤ k
+  pub few : k ≤ 64
+  pub wide : 0 < w
+  pub tall : l ≤ 24
+  pub long : length curve ≡ (l + 1) * w
+  pub low : (j : ℕ) → j < length curve → getD curve j 0 < q
+  pub live : T (not (zeros (ops q) curve))
+  pub fits : T (weighted (ops q) k w l curve)
+  pub slots : (k + 2) * ((l + 1) * w) ≤ length work
+  pub room : (t .found + l) * k ≤ length roots
+  pub count : t .tried + (1 + l * k) < 2 ^ 64
+
+-- the roots of the curve
+abbrev pub roots-of : ℕ → ℕ → ℕ → ℕ → List ℕ → List (List ℕ)
+roots-of q k w l curve = all-roots (ops q) k (rows w (l + 1) curve)
+
+-- the beginnings that are tried for it
+abbrev pub tried-of : ℕ → ℕ → ℕ → ℕ → List ℕ → ℕ
+tried-of q k w l curve = beginnings (ops q) k (rows w (l + 1) curve)
+
+-- The tally counts the roots and the beginnings, at most ℓ and 1 + ℓ·k of them; the roots stand one after the other behind those found before.
+pub record Given (q k w l : ℕ) (curve work roots : List ℕ) (t : Tally) (work′ roots′ : List ℕ) (r : Tally) : Type 0 where
+  pub found : r .found ≡ t .found + length (roots-of q k w l curve)
+  pub tried : r .tried ≡ t .tried + tried-of q k w l curve
+  pub list : Written (flatten (roots-of q k w l curve)) (t .found * k) roots roots′
+  pub few : length (roots-of q k w l curve) ≤ l
+  pub bound : tried-of q k w l curve ≤ 1 + l * k
+  pub slots : length work′ ≡ length work
