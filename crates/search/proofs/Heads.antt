@@ -3,7 +3,7 @@ use mathlib.Core.Bool.{Bool}
 use mathlib.Core.Path.{_≡_, refl, sym, ap, ap₂, _∙_}
 use mathlib.Core.List.{List, [], _∷_, map}
 use Prim.Native.Nat.{ℕ, zero, suc, _+_, _-_, _*_, _<_, _≤_, _%_}
-use native.Mathlib.Nat.{mod-eq-of-lt, zero-mod}
+use native.Mathlib.Nat.{mod-eq-of-lt, zero-mod, zero-add}
 use native.Mathlib.Omega.{arith}
 use lib.Dec.{T, eqb}
 use lib.ListN.{length, getD, take, drop, length-map}
@@ -19,6 +19,10 @@ use Rattle.search.specs.Slot.{run}
 
 pub run-at : (a n : ℕ) (d : List ℕ) (j : ℕ) → j < n → getD (run a n d) j 0 ≡ getD d (a + j) 0
 run-at a n d j l = getD-take n (drop a d) j 0 l ∙ getD-drop a d j 0
+
+-- from the front
+pub run-front : (n : ℕ) (d : List ℕ) (j : ℕ) → j < n → getD (run 0 n d) j 0 ≡ getD d j 0
+run-front n d j l = run-at 0 n d j l ∙ ap (λ (i : ℕ). getD d i 0) (zero-add j)
 
 module _ (q w : ℕ) where
   first-take : (v : ℕ) (s : List ℕ) → first (ops q) (take (suc v) s) ≡ getD s 0 0

@@ -3,7 +3,6 @@ use mathlib.Core.Path.{_≡_, sym, ap, _∙_}
 use mathlib.Core.Logic.{⊎-elim}
 use mathlib.Core.List.{List, map}
 use Prim.Native.Nat.{ℕ, _+_, _*_, _<_, _≤_}
-use native.Mathlib.Nat.{zero-add}
 use native.Mathlib.Omega.{arith}
 use lib.Dec.{T}
 use lib.ListN.{length, getD}
@@ -17,7 +16,7 @@ use Rattle.buffers.proofs.Change.{lt-or-ge, changed-front}
 use Rattle.buffers.proofs.Part.{len-mid}
 use Rattle.buffers.proofs.Rows.{row-fits}
 use Rattle.search.specs.Slot.{run, Below, Substituted, Stripped, Nexted}
-use Rattle.search.proofs.Heads.{run-at}
+use Rattle.search.proofs.Heads.{run-at, run-front}
 use Rattle.search.proofs.Numbers.{rows-values, rows-same, by-cell, number-below}
 use Rattle.search.proofs.Next.{Shifted, step-found, step-tried, step-within}
 
@@ -26,17 +25,14 @@ module _ (w l b : ℕ) (d e : List ℕ) (c : Stripped w l b d e) where
   abbrev S : ℕ
   S = (l + 1) * w
 
-  pub front : (j : ℕ) → j < S → getD (run 0 S d) j 0 ≡ getD d j 0
-  front j k = run-at 0 S d j k ∙ ap (λ (i : ℕ). getD d i 0) (zero-add j)
-
   pub shifted : Shifted w (l + 1) (run 0 S d) (run b S e)
   shifted = record {
     v = c .v;
     small = c .power .small;
-    moved = λ t i k j. run-at b S e _ (omega (arith, row-fits w k)) ∙ c .moved .moved t i k j ∙ sym (front _ (omega (arith, row-fits w k)));
+    moved = λ t i k j. run-at b S e _ (omega (arith, row-fits w k)) ∙ c .moved .moved t i k j ∙ sym (run-front S d _ (omega (arith, row-fits w k)));
     behind = λ t i k j m. run-at b S e _ (omega (arith, row-fits w k)) ∙ c .moved .behind t i k j m;
-    clear = λ t i k j. front _ (omega (arith, row-fits w k, c .power .small)) ∙ c .power .clear i j t k;
-    stop = λ k z. c .power .stop k (λ t j. sym (front _ (omega (arith, row-fits w j))) ∙ z t j);
+    clear = λ t i k j. run-front S d _ (omega (arith, row-fits w k, c .power .small)) ∙ c .power .clear i j t k;
+    stop = λ k z. c .power .stop k (λ t j. sym (run-front S d _ (omega (arith, row-fits w j))) ∙ z t j);
   }
 
   -- what is stripped stays below q
@@ -68,7 +64,7 @@ module _ (q : ℕ) (m : T (modulus q)) (g : ℕ) (gq : g < q) (w l a : ℕ) (o :
   same = rows-same w (l + 1) d₁ s (omega (arith, copied .len)) (omega (arith, len-mid a n d (omega arith))) (λ j k. changed-front copied j k ∙ sym (run-at a n d j k))
 
   steps : (t i : ℕ) → t < l + 1 → i < w → getD p (t * w + i) 0 ≡ cell (ops q) (step (ops q) g (rows w (l + 1) s)) t i
-  steps t i k j = front w l (a + n) d₂ e c _ (omega (arith, row-fits w k)) ∙ stepped .cells t i k j ∙ ap (λ (P : List (List ℕ)). cell (ops q) (step (ops q) g P) t i) same
+  steps t i k j = run-front n d₂ _ (omega (arith, row-fits w k)) ∙ stepped .cells t i k j ∙ ap (λ (P : List (List ℕ)). cell (ops q) (step (ops q) g P) t i) same
 
   low-p : (j : ℕ) → j < n → getD p j 0 < q
   low-p = by-cell w (l + 1) (λ j. getD p j 0 < q) o λ t i k j. rw (steps t i k j) (number-below q m g gq (rows w (l + 1) s) (rows-values q m w (l + 1) s low-s) 0 t i)

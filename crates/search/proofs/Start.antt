@@ -11,6 +11,7 @@ use lib.Seq.{ext-getD}
 use Rattle.rules.specs.Code.{zeros}
 use Rattle.rules.specs.Curve.{weighted}
 use Rattle.rules.specs.Field.{Ops, ops, modulus}
+use Rattle.rules.specs.Outcome.{over}
 use Rattle.rules.specs.Search.{rows, stripped, beginnings, roots}
 use Rattle.algebra.specs.Search.{found, tried, Within}
 use Rattle.algebra.proofs.Lists.{map-rows}
@@ -24,16 +25,19 @@ use Rattle.prime.proofs.Laws.{laws}
 use Rattle.demands.proofs.Link.{elt-hom, value-hom}
 use Rattle.demands.proofs.Listing.{roots-values}
 use borrow.Rule.Slice.PartMut.{putMid, same-len-mid}
+use Rattle.buffers.specs.Change.{Changed}
+use Rattle.buffers.proofs.Change.{changed-list}
 use Rattle.buffers.proofs.Part.{len-mid, put-mid}
 use Rattle.search.specs.declared.Sizes.{Sizes}
 use Rattle.search.specs.declared.Tally.{Tally}
 use Rattle.search.specs.Slot.{run, curve, Stripped}
-use Rattle.search.specs.Search.{listed, Asked, Given, Ready, Searched, roots-of, tried-of}
-use Rattle.search.proofs.Heads.{run-at}
+use Rattle.search.specs.Search.{listed, Asked, Given, Roots, Ready, Searched, roots-of, tried-of, none}
+use Rattle.search.proofs.Heads.{run-at, run-front}
 use Rattle.search.proofs.Numbers.{rows-values}
 use Rattle.search.proofs.Next.{strip-found, strip-tried, strip-within, within-values}
-use Rattle.search.proofs.Nexted.{front, shifted, strip-low}
+use Rattle.search.proofs.Nexted.{shifted, strip-low}
 use Rattle.search.proofs.Roots.{written-to}
+use Rattle.search.proofs.Walked.{long}
 
 listed-empty : (fs : List (List ℕ)) → listed [] fs ≡ flatten fs
 unfolding listed flatten
@@ -103,7 +107,7 @@ module _ (q k w l : ℕ) (c d z : List ℕ) (t : Tally) (asked : Asked q k w l c
   spare : run 0 S d₁ ≡ c
   spare = ext-getD 0 (run 0 S d₁) c (len-mid 0 S d₁ (omega (arith, slots, len)) ∙ sym (asked .long)) λ j m.
       let n : j < S = omega (arith, len-mid 0 S d₁ (omega (arith, slots, len))) in
-      front w l S d₁ d₂ st j n ∙ copied j n
+      run-front S d₁ j n ∙ copied j n
 
   low-p : (j : ℕ) → j < S → getD (run 0 S d₁) j 0 < q
   low-p j m = rw spare (low j m)
@@ -146,6 +150,7 @@ module _ (q k w l : ℕ) (c d z : List ℕ) (t : Tally) (asked : Asked q k w l c
     tried = omega (arith, s .tried, is-tried);
     list = written-to (listed (take (k - k) b) (found (ops q) k (curve w l S d₂))) (flatten (roots-of q k w l c)) (s .list)
         (ap₂ (λ (n : ℕ) (fs : List (List ℕ)). listed (take n b) fs) (sub-self k) is-found ∙ listed-empty (roots-of q k w l c));
+    long = ap length (sym (ap flatten is-found ∙ refl) ∙ sym (listed-empty (found (ops q) k (curve w l S d₂)))) ∙ long q k (curve w l S d₂) [] ∙ ap₂ (λ (a b : ℕ). a * b) (ap length is-found) (zero-add k);
     few = few-roots;
     bound = few-tried;
     slots = s .slots ∙ st .moved .len ∙ len;
@@ -158,3 +163,46 @@ copied-front S n d ys c e fits long same =
       same-len-mid 0 n d ys (len ∙ sym (len-mid 0 n d (omega arith))),
       λ j l. ap (λ (i : ℕ). getD (putMid 0 n d ys) i 0) (sym (zero-add j)) ∙ put-mid 0 n d (omega arith) ys len j (omega arith) ∙ ap (λ (x : List ℕ). getD x j 0) same,
     )
+
+-- what is asked of a curve is asked of its copy in the spare
+pub asked-spare : (q k w l : ℕ) (c d d₁ z : List ℕ) (t : Tally) → Asked q k w l c d z t → length d₁ ≡ length d → ((j : ℕ) → j < (l + 1) * w → getD d₁ j 0 ≡ getD c j 0) → (run 0 ((l + 1) * w) d₁ ≡ c) × Asked q k w l (run 0 ((l + 1) * w) d₁) d₁ z t
+asked-spare q k w l c d d₁ z t h len copied = (
+  same,
+  rw same record {
+    field = h .field;
+    symbols = h .symbols;
+    few = h .few;
+    wide = h .wide;
+    tall = h .tall;
+    long = h .long;
+    low = h .low;
+    live = h .live;
+    fits = h .fits;
+    slots = rw len (h .slots);
+    room = h .room;
+    count = h .count;
+  },
+)
+  where
+    fits : 0 + (l + 1) * w ≤ length d₁
+    fits = omega (arith, len, h .slots, add-mul k 2 ((l + 1) * w))
+
+    same : run 0 ((l + 1) * w) d₁ ≡ c
+    same = ext-getD 0 (run 0 ((l + 1) * w) d₁) c (len-mid 0 ((l + 1) * w) d₁ fits ∙ sym (h .long)) λ j m.
+        let n : j < (l + 1) * w = omega (arith, len-mid 0 ((l + 1) * w) d₁ fits) in
+        run-front ((l + 1) * w) d₁ j n ∙ copied j n
+
+-- the roots from the front on
+pub roots-front : (q k w l : ℕ) (c d d₁ z d₂ z′ : List ℕ) (r : Tally) → Asked q k w l c d z none → length d₁ ≡ length d → Given q k w l c d₁ z none d₂ z′ r → Roots q k w l c d z d₂ z′ r
+unfolding over
+roots-front q k w l c d d₁ z d₂ z′ r a len g = record {
+  found = omega (arith, g .found);
+  tried = omega (arith, g .tried);
+  list = changed-list (flatten (roots-of q k w l c)) (front-written (g .list)) refl (omega (arith, g .long, a .room, mul-le-mul-right {m = length (roots-of q k w l c)} {n = 0 + l} k (omega (arith, g .few)))) (λ j m. refl);
+  few = g .few;
+  bound = g .bound;
+  slots = g .slots ∙ len;
+}
+  where
+    front-written : Changed (λ j. getD (flatten (roots-of q k w l c)) j 0) (0 * k) (length (flatten (roots-of q k w l c))) z z′ → Changed (λ j. getD (flatten (roots-of q k w l c)) j 0) 0 (length (flatten (roots-of q k w l c))) z z′
+    front-written h = let e : 0 * k ≡ 0 = omega arith in rw e at h

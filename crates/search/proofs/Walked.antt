@@ -120,7 +120,7 @@ tried-passed q (suc k) Q l = rw (sub-one (suc k)) refl
 
 -- The messages are all equally long.
 module _ (q : ℕ) where
-  abbrev Long : ℕ → Type 0
+  abbrev pub Long : ℕ → Type 0
   Long k = (Q : List (List ℕ)) (p : List ℕ) → length (listed p (found (ops q) k Q)) ≡ length (found (ops q) k Q) * (length p + k)
 
   through-long : (k : ℕ) → Long k → (Q : List (List ℕ)) (p : List ℕ) (g : ℕ) → length (listed p (through q k Q g)) ≡ length (through q k Q g) * (length p + suc k)
@@ -143,7 +143,7 @@ module _ (q : ℕ) where
       ∙ sym (add-mul (length (through q k Q g)) (length (flatMap (through q k Q) xs)) (length p + suc k))
       ∙ ap (λ (n : ℕ). n * (length p + suc k)) (sym (length-append (through q k Q g) (flatMap (through q k Q) xs)))
 
-  long : (k : ℕ) → Long k
+  pub long : (k : ℕ) → Long k
   unfolding found
   long zero Q p = go (zeros (ops q) (getD Q 0 []))
     where

@@ -8,12 +8,13 @@ use lib.ListN.{length, getD, take}
 use Rattle.rules.specs.Code.{zeros}
 use Rattle.rules.specs.Curve.{weighted}
 use Rattle.rules.specs.Field.{ops, modulus}
+use Rattle.rules.specs.Outcome.{over}
 use Rattle.rules.specs.Search.{rows, beginnings, roots as all-roots}
 use Rattle.algebra.specs.Search.{Within}
 use Rattle.buffers.specs.Change.{Changed}
 use Rattle.search.specs.declared.Sizes.{Sizes}
 use Rattle.search.specs.declared.Tally.{Tally}
-use Rattle.search.specs.Slot.{Below, curve}
+use Rattle.search.specs.Slot.{run, Below, curve}
 
 -- the numbers of a slot
 abbrev pub size : Sizes → ℕ
@@ -89,6 +90,24 @@ pub record Given (q k w l : ℕ) (curve work roots : List ℕ) (t : Tally) (work
   pub found : r .found ≡ t .found + length (roots-of q k w l curve)
   pub tried : r .tried ≡ t .tried + tried-of q k w l curve
   pub list : Written (flatten (roots-of q k w l curve)) (t .found * k) roots roots′
+  pub long : length (flatten (roots-of q k w l curve)) ≡ length (roots-of q k w l curve) * k
+  pub few : length (roots-of q k w l curve) ≤ l
+  pub bound : tried-of q k w l curve ≤ 1 + l * k
+  pub slots : length work′ ≡ length work
+
+-- the curve in the spare slot
+abbrev pub spare : ℕ → ℕ → List ℕ → List ℕ
+spare w l d = run 0 ((l + 1) * w) d
+
+-- nothing is counted yet
+abbrev pub none : Tally
+none = record { found = 0; tried = 0 }
+
+-- What the search of one curve leaves: the roots from the front of their buffer on, its further places untouched, and both counts.
+pub record Roots (q k w l : ℕ) (curve work roots work′ roots′ : List ℕ) (r : Tally) : Type 0 where
+  pub found : r .found ≡ length (roots-of q k w l curve)
+  pub tried : r .tried ≡ tried-of q k w l curve
+  pub list : roots′ ≡ over (flatten (roots-of q k w l curve)) roots
   pub few : length (roots-of q k w l curve) ≤ l
   pub bound : tried-of q k w l curve ≤ 1 + l * k
   pub slots : length work′ ≡ length work

@@ -5,7 +5,7 @@ ghost use lib.ListN.{length, getD, take};
 ghost use Rattle.rules.specs.Field.{ops};
 ghost use Rattle.algebra.specs.Search.{found as found-from, tried as tried-from};
 ghost use Rattle.search.specs.Slot.{curve};
-ghost use Rattle.search.specs.Search.{listed, Written, Zeros, Ready, Searched, Asked, Given};
+ghost use Rattle.search.specs.Search.{listed, Written, Zeros, Ready, Searched, Asked, Given, Roots, spare, none};
 use field::runs::copy;
 
 pub mod slot;
@@ -126,8 +126,20 @@ fn walk(
     all
 }
 
-// Every root of the curve, in order, behind those that the tally has counted before; the empty beginning has the curve stripped.
-fn run(
+// Every root of the curve in the spare slot, in order, behind those that the tally has counted before; the empty beginning has the curve stripped.
+fn run(q: u16, k: usize, w: usize, l: usize, work: &mut [u16], roots: &mut [u16], t: Tally) -> Tally
+    requires { ⌜ Asked q k w l (spare w l (now work)) (now work) (now roots) t ⌝ }
+    ensures { λ r. ⌜ Given q k w l (spare w l (now (work .entry))) (now (work .entry)) (now (roots .entry)) t (now (work .exit)) (now (roots .exit)) r ⌝ }
+{
+    let h = Sizes { q, k, w, l };
+    let s = (l + 1) * w;
+    slot::strip(w, l, s, work);
+    let mut begun = [0u16; 64];
+    visit(h, k, s, work, &mut begun, roots, t)
+}
+
+// Every root of the curve, in order, into roots, and the beginnings tried.
+pub fn search(
     q: u16,
     k: usize,
     w: usize,
@@ -135,15 +147,11 @@ fn run(
     curve: &[u16],
     work: &mut [u16],
     roots: &mut [u16],
-    t: Tally,
 ) -> Tally
-    requires { ⌜ Asked q k w l (now curve) (now work) (now roots) t ⌝ }
-    ensures { λ r. ⌜ Given q k w l (now (curve .entry)) (now (work .entry)) (now (roots .entry)) t (now (work .exit)) (now (roots .exit)) r ⌝ }
+    requires { ⌜ Asked q k w l (now curve) (now work) (now roots) none ⌝ }
+    ensures { λ r. ⌜ Roots q k w l (now (curve .entry)) (now (work .entry)) (now (roots .entry)) (now (work .exit)) (now (roots .exit)) r ⌝ }
 {
-    let h = Sizes { q, k, w, l };
     let s = (l + 1) * w;
     copy(curve, &mut work[0..s]);
-    slot::strip(w, l, s, work);
-    let mut begun = [0u16; 64];
-    visit(h, k, s, work, &mut begun, roots, t)
+    run(q, k, w, l, work, roots, Tally { found: 0, tried: 0 })
 }
