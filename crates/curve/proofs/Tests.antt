@@ -1,12 +1,11 @@
 -- The tests of the check, place by place: what a loop has seen so far decides them.
 use mathlib.Core.Path.{_≡_, refl, sym, _∙_, subst, ap, ap₂}
 use mathlib.Core.Bool.{Bool, true, false, not, _&&_, _||_}
-use mathlib.Core.Logic.{⊎-elim}
 use mathlib.Core.List.{List, [], _∷_}
 use Prim.Native.Nat.{ℕ, zero, suc, _+_, _-_, _*_, _<_, _≤_}
 use native.Mathlib.Nat.{mod-eq-of-lt, zero-mod}
 use native.Mathlib.Omega.{arith}
-use lib.Dec.{T, eqb, ltb, eqb→eq, ltb→lt, lt→ltb}
+use lib.Dec.{T, not-T, eqb, ltb, eqb→eq, ltb→lt, nltb→le}
 use lib.ListN.{length, getD}
 use borrow.Rule.Slice.PartMut.{midOf}
 use Rattle.rules.specs.Lists.{below, all}
@@ -15,12 +14,10 @@ use Rattle.rules.specs.Code.{zeros}
 use Rattle.rules.specs.Curve.{coefficient, weighted}
 use Rattle.rules.specs.Refusal.{under}
 use Rattle.rules.proofs.Tests.{both, and, below-at, below-of, or-else, same-test}
-use Rattle.buffers.proofs.Change.{lt-or-ge}
 use Rattle.buffers.proofs.Part.{len-mid, at-mid}
 use Rattle.curve.specs.Check.{blank}
 
--- A loop over the numbers below n has come to its end, or stopped at one.
-
+-- the answer that a loop gives at its end, and where it stops
 pub test-true : (b : Bool) → T b → true ≡ b
 test-true b t = same-test true b (λ s. t) (λ s. tt)
 
@@ -57,7 +54,7 @@ unfolding blank all
 blank-of [] h = tt
 blank-of (c ∷ run) h = and (eqb c 0) _ (zero-test (h 0 (omega arith))) (blank-of run (λ i l. h (suc i) (omega arith)))
 
-pub blank-at : (run : List ℕ) → T (blank run) → (i : ℕ) → getD run i 0 ≡ 0
+blank-at : (run : List ℕ) → T (blank run) → (i : ℕ) → getD run i 0 ≡ 0
 unfolding blank all
 blank-at [] t i = refl
 blank-at (c ∷ run) t zero = eqb→eq c 0 (both (eqb c 0) _ t .0)
@@ -97,17 +94,13 @@ module _ (q k w l : ℕ) (c : List ℕ) (u : T (under q c)) where
   unfolding weighted coefficient
   weighted-of h = below-of _ (l + 1) (λ t m. below-of _ w (λ i n.
       let a = ltb (i + t * (k - 1)) w in
-      let b = alike q (getD c (t * w + i) 0) 0 in
-      ⊎-elim (λ s. left a b (lt→ltb _ _ s)) (λ s. right a b (subst T (sym (alike-at q c (t * w + i) u)) (zero-test (h t m i n s)))) (lt-or-ge (i + t * (k - 1)) w)))
+      unless a (alike q (getD c (t * w + i) 0) 0) (λ f. subst T (sym (alike-at q c (t * w + i) u)) (zero-test (h t m i n (nltb→le _ _ (not-T a f)))))))
     where
-      left : (a b : Bool) → T a → T (a || b)
-      left true b s = tt
+      unless : (a b : Bool) → (¬ (T a) → T b) → T (a || b)
+      unless true b f = tt
+      unless false b f = f (λ t. absurd t)
 
-      right : (a b : Bool) → T b → T (a || b)
-      right true b s = tt
-      right false b s = s
-
-  pub weighted-clear : T (weighted (ops q) k w l c) → Clear k w (l + 1) c
+  weighted-clear : T (weighted (ops q) k w l c) → Clear k w (l + 1) c
   unfolding weighted coefficient
   weighted-clear s t m i n g = eqb→eq _ 0 (subst T (alike-at q c (t * w + i) u)
       (or-else (ltb (i + t * (k - 1)) w) _ (below-at _ w i (below-at _ (l + 1) t s m) n) (λ h. let f : i + t * (k - 1) < w = ltb→lt _ _ h in omega arith)))

@@ -1,5 +1,5 @@
 -- The recurrence that fills a row of weights, and the rows that are there after it.
-use mathlib.Core.Path.{_≡_, ap, _∙_}
+use mathlib.Core.Path.{_≡_, refl, ap, _∙_}
 use mathlib.Core.Logic.{_⊎_, inl, inr}
 use mathlib.Core.List.{List}
 use Prim.Native.Nat.{ℕ, zero, suc, _+_, _-_, _*_, _%_, _<_, _≤_}
@@ -13,7 +13,7 @@ use Rattle.rules.specs.Field.{ops, plus, times, modulus}
 use Rattle.algebra.specs.Conditions.{weight}
 use Rattle.prime.proofs.Below.{times-below}
 use Rattle.buffers.specs.Change.{Changed}
-use Rattle.curve.specs.Weights.{Weights}
+use Rattle.curve.specs.Weights.{Lower, Weights}
 
 module _ (q α : ℕ) where
   pub weight-start : (a last : ℕ) → ((a ≡ 0) × (last ≡ 1)) ⊎ (¬ (a ≡ 0) × (last ≡ 0)) → last ≡ weight (ops q) α a 0
@@ -24,23 +24,15 @@ module _ (q α : ℕ) where
   weight-start (suc a) last (inr z) = z .1
 
   module _ (m : T (modulus q)) (i : ℕ) where
-    up : (a low : ℕ) → a ≡ 0 → low ≡ 0 → plus q low (times q α (weight (ops q) α a i)) ≡ weight (ops q) α a (i + 1)
+    -- the next weight, from the one before it and the one beside that in the row before
+    pub weight-more : {n : ℕ} {d e : List ℕ} (a low : ℕ) → Weights q α a n d → Changed (weight (ops q) α a) (a * 256) (i + 1) d e → i < n → n ≤ 256 → Lower a i e low →
+        plus q low (times q α (weight (ops q) α a i)) ≡ weight (ops q) α a (i + 1)
     unfolding weight plus
-    up zero low e h = rw (h, add-one, zero-add) (mod-eq-of-lt (times-below q m α _))
-    up (suc a) low e h = absurd (omega arith)
-
-    next : (a low : ℕ) → low ≡ weight (ops q) α a i → plus q low (times q α (weight (ops q) α (suc a) i)) ≡ weight (ops q) α (suc a) (i + 1)
-    unfolding weight plus
-    next a low h = rw (h, add-one) (ap (λ x. x % q) (add-comm _ _))
-
-    -- the next weight, where low is the weight of the order below, or 0 where there is none
-    pub weight-more : {n : ℕ} {d e : List ℕ} (a low : ℕ) → Weights q α a n d → Changed (weight (ops q) α a) (a * 256) (i + 1) d e → i < n → n ≤ 256 →
-        ((a ≡ 0) × (low ≡ 0)) ⊎ ((0 < a) × (low ≡ getD e (a * 256 - 256 + i) 0)) → plus q low (times q α (weight (ops q) α a i)) ≡ weight (ops q) α a (i + 1)
-    weight-more {n} {d} {e} a low w h l u (inl z) = up a low (z .0) (z .1)
-    weight-more {n} {d} {e} zero low w h l u (inr z) = absurd (omega arith)
-    weight-more {n} {d} {e} (suc a) low w h l u (inr z) =
-        let at : suc a * 256 - 256 + i ≡ a * 256 + i = omega arith in
-        next a low (z .1 ∙ ap (λ (k : ℕ). getD e k 0) at ∙ h .low (a * 256 + i) (omega arith) ∙ w .row a (omega arith) i l)
+    weight-more {n} {d} {e} zero low w h l u r = rw (r .none refl, add-one, zero-add) (mod-eq-of-lt (times-below q m α _))
+    weight-more {n} {d} {e} (suc a) low w h l u r =
+        let at : (suc a - 1) * 256 + i ≡ a * 256 + i = omega arith in
+        let is : low ≡ weight (ops q) α a i = r .some (omega arith) ∙ ap (λ (k : ℕ). getD e k 0) at ∙ h .low (a * 256 + i) (omega arith) ∙ w .row a (omega arith) i l in
+        rw (is, add-one) (ap (λ x. x % q) (add-comm _ _))
 
   pub weights-more : {a n : ℕ} {d e : List ℕ} → n ≤ 256 → Weights q α a n d → Changed (weight (ops q) α a) (a * 256) n d e → Weights q α (a + 1) n e
   weights-more {a} {n} {d} {e} u w h = record {

@@ -35,10 +35,10 @@ module _ (q k w l : ℕ) where
   unfoldable pub met : List ℕ → Triple ℕ → Bool
   met c z = all (λ a. all (λ b. eqb (value (ops q) (space k w l) (condition z b a) (coefficient (ops q) w c)) 0) (below (z .times - a))) (below (z .times))
 
-  -- what the check takes: as many points, symbols and multiplicities, none above 4, and a whole curve
+  -- what the check takes: as many symbols and multiplicities as points, no multiplicity above 4, and a whole curve
   pub record Checkable (points word times curve : List ℕ) : Type 0 where
     pub shape : Shaped q k w l
     pub symbols : length word ≡ length points
-    pub orders : length times ≡ length points
+    pub multiplicities : length times ≡ length points
     pub few : (j : ℕ) → j < length times → getD times j 0 ≤ 4
     pub whole : length curve ≡ (l + 1) * w

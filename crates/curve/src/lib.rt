@@ -10,7 +10,7 @@ ghost use Rattle.rules.specs.Refusal.{under};
 ghost use Rattle.algebra.specs.Conditions.{weight};
 ghost use Rattle.demands.specs.Shape.{Shaped};
 ghost use Rattle.buffers.specs.Change.{Changed};
-ghost use Rattle.curve.specs.Weights.{Weights};
+ghost use Rattle.curve.specs.Weights.{Lower, Weights};
 ghost use Rattle.curve.specs.Value.{pairing};
 ghost use Rattle.curve.specs.Triples.{tripled};
 ghost use Rattle.curve.specs.Check.{blank, zero-with, zero-below, met, Checkable};
@@ -19,6 +19,18 @@ use field::symbols::mixed;
 
 // Each row of weights has this many places: no curve is wider.
 pub const WIDE: usize = 256;
+
+// The weight beside place i in the row before row a, and 0 where there is no such row.
+fn lower(a: usize, i: usize, weights: &[u16]) -> u16
+    requires { ⌜ (a < 4) × (i < 256) × (length (now weights) ≡ 1024) ⌝ }
+    ensures { λ r. ⌜ Lower a i (now (weights .entry)) r ⌝ }
+{
+    if a == 0 {
+        return 0;
+    }
+    let before = (a - 1) * WIDE;
+    weights[before + i]
+}
 
 // The first n weights of order a at α, into row a: each is α times the one before it, plus the one beside that in the row before.
 fn weigh(q: u16, alpha: u16, a: usize, n: usize, weights: &mut [u16])
@@ -33,11 +45,7 @@ fn weigh(q: u16, alpha: u16, a: usize, n: usize, weights: &mut [u16])
     let mut i: usize = 0;
     while i < n {
         weights[at + i] = last;
-        let mut low: u16 = 0;
-        if a > 0 {
-            low = weights[at - WIDE + i];
-        }
-        last = mixed(q, low, alpha, last);
+        last = mixed(q, lower(a, i, weights), alpha, last);
         i += 1;
     }
 }

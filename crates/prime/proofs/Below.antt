@@ -4,7 +4,9 @@ use Prim.Native.Nat.{ℕ, _+_, _-_, _%_, _≤_, _<_}
 use native.Mathlib.Nat.{mod-lt, mod-mod, add-mod, mod-add-mod}
 use native.Mathlib.Omega.{arith}
 use lib.Dec.{T, eqb}
-use Rattle.rules.specs.Field.{plus, minus, times, image, alike, modulus}
+use Rattle.rules.specs.Lists.{from, below}
+use Rattle.rules.specs.Field.{ops, plus, minus, times, image, alike, modulus, inverse}
+use Rattle.rules.proofs.Tests.{pick-in, mem-from}
 use Rattle.prime.proofs.Mod.{mul-mod-left, mul-mod-right}
 use Rattle.prime.proofs.Tests.{modulus-says}
 
@@ -33,6 +35,10 @@ module _ (q : ℕ) (m : T (modulus q)) where
   pub image-below : (n : ℕ) → image q n < q
   unfolding image
   image-below n = reduced-below n
+
+  pub inverse-below : (a : ℕ) → inverse (ops q) a < q
+  unfolding inverse below
+  inverse-below a = pick-in _ (λ b. b < q) (from 0 q) 0 (omega (arith, modulus-two)) (λ b i. omega (arith, mem-from b 0 q i))
 
 module _ (q a b : ℕ) where
   pub plus-reduced : plus q (a % q) (b % q) ≡ plus q a b

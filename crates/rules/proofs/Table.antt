@@ -1,5 +1,5 @@
 -- The cases of document 01 that are marked P, in its order: one table, which the checker computes.
-use mathlib.Core.Path.{_≡_, refl}
+use mathlib.Core.Path.{_≡_}
 use mathlib.Core.Bool.{Bool, true, false}
 use mathlib.Core.List.{List, [], _∷_, flatMap, zipWith}
 use Prim.Native.Nat.{ℕ, _-_, _*_}
@@ -29,7 +29,7 @@ use Rattle.rules.specs.Search.{
   listed,
 }
 use Rattle.rules.specs.Refusal.{lowest, long, under, field-refusal, encode-refusal, setting-causes, setting-refusal, word-causes, curve-causes, fits, check-refusal, read-refusal}
-use Rattle.rules.specs.Outcome.{Answer, answer, inverse-call, Derived, setting-call, Encoded, encode-call, over, Checked, check-call, tried-of, list-of}
+use Rattle.rules.specs.Outcome.{answer, inverse-call, setting-call, encode-call, over, Checked, check-call, tried-of, list-of}
 
 -- "Seven" with the modulus, s and τ left open
 abbrev seven : ℕ → ℕ → ℕ → Setting
@@ -91,4 +91,4 @@ pub record Table : Type 0 where
 
 pub table : Table
 unfolding from below all keep pick sum distinct plus minus times image alike prime modulus inverse flatMap zipWith triples eval encode meets score messages sifted scoring readings code-ranges ranges W ℓ C U R curve-length binomial power total coefficient weighted hasse through passes rows merge width rest first zeros firsts strip stripped scale step follows alive beginnings product along roots listed lowest long under field-refusal encode-refusal setting-causes setting-refusal word-causes curve-causes fits check-refusal read-refusal answer inverse-call setting-call encode-call over check-call tried-of list-of
-table = search refl
+table = search

@@ -33,6 +33,12 @@ module _ {A : Type 0} (test : A → Bool) where
   all-of [] h = tt
   all-of (x ∷ xs) h = and (test x) (all test xs) (h x (List·Memᴰ·head refl)) (all-of xs (λ y m. h y (List·Memᴰ·tail m)))
 
+  -- what is picked is in the list, or is the default
+  pub pick-in : (P : A → Type 0) (xs : List A) (d : A) → P d → ((y : A) → List·Memᴰ y xs → P y) → P (pick test xs d)
+  unfolding pick
+  pick-in P [] d h k = h
+  pick-in P (y ∷ xs) d h k = either P y _ (test y) (λ _. k y (List·Memᴰ·head refl)) (λ _. pick-in P xs d h (λ z w. k z (List·Memᴰ·tail w)))
+
   -- where one passes, the one picked passes and is in the list
   pub pick-mem : (P : A → Type 0) (x : A) (xs : List A) (d : A) → List·Memᴰ x xs → T (test x) → ((y : A) → List·Memᴰ y xs → T (test y) → P y) → P (pick test xs d)
   unfolding pick

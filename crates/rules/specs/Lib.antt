@@ -7,3 +7,4 @@ pub mod Curve
 pub mod Search
 pub mod Refusal
 pub mod Outcome
+pub mod Patch

@@ -49,7 +49,7 @@ returns c =
     let s = c .before .before .before .before .before .before .before .before .before .before .before in
     let x = s .args in
     test-false _ (λ t. said-no _ _ (c .if1 .taken) (c .before .through .ensures)
-    (tripled-at (met (x .q) (x .k) (x .w) (x .l) (x .curve .now)) (x .points .now) (x .word .now) (x .times .now) (c .before .before .before .before .before .before .loop .j) (s .pre .symbols) (s .pre .orders) (omega arith) t))
+    (tripled-at (met (x .q) (x .k) (x .w) (x .l) (x .curve .now)) (x .points .now) (x .word .now) (x .times .now) (c .before .before .before .before .before .before .loop .j) (s .pre .symbols) (s .pre .multiplicities) (omega arith) t))
 
 add-j : tie.Need-add-j Inv-loop μ-loop
 add-j c = search needs

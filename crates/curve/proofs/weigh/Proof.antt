@@ -40,17 +40,8 @@ mul-weights c = search needs
 slice-write-weights : tie.Need-slice-write-weights Inv-loop μ-loop
 slice-write-weights c = search needs
 
-sub-low : tie.Need-sub-low Inv-loop μ-loop
-sub-low c = search needs
-
-add-low : tie.Need-add-low Inv-loop μ-loop
-add-low c = search needs
-
-mul-low : tie.Need-mul-low Inv-loop μ-loop
-mul-low c = search needs
-
-slice-read-low : tie.Need-slice-read-low Inv-loop μ-loop
-slice-read-low c = simp length-set (omega (arith, c .before .before .before .loop .inv .2 .len))
+lower-requires : tie.Need-lower-requires Inv-loop μ-loop
+lower-requires c κs = (search needs, search needs, simp length-set (omega (arith, c .before .before .loop .inv .2 .len, c .before .before .before .before .before .pre .3 .len)))
 
 mixed-requires : tie.Need-mixed-requires Inv-loop μ-loop
 mixed-requires c κs = search needs
@@ -63,15 +54,15 @@ loop-less c = search needs
 
 loop-again : tie.Need-loop-again Inv-loop μ-loop
 loop-again c =
-    let l = c .before .before .before .loop in
-    let x = c .before .before .before .before .before .before .args in
+    let l = c .before .before .before .before .loop in
+    let s = c .before .before .before .before .before .before .before in
+    let x = s .args in
     let h = changed-more (x .a * 256 + l .i) (l .last) (l .inv .2) (omega arith) (omega arith) (l .inv .3) in (
       search needs,
       search needs,
       h,
-      c .mixed .ensures ∙ ap (λ (y : ℕ). plus (x .q) (c .before .if2 .low) (times (x .q) (x .alpha) y)) (l .inv .3)
-          ∙ weight-more (x .q) (x .alpha) (c .before .before .before .before .before .before .pre .0) (l .i) (x .a) (c .before .if2 .low) (c .before .before .before .before .before .before .pre .3) h (omega arith) (omega arith)
-          (⊎-elim (λ w. inr (w .0 .taken, w .2)) (λ w. inl (omega (arith, w .0 .left), w .1)) (c .before .if2 .came)),
+      c .mixed .ensures ∙ ap (λ (y : ℕ). plus (x .q) (c .before .lower .result) (times (x .q) (x .alpha) y)) (l .inv .3)
+          ∙ weight-more (x .q) (x .alpha) (s .pre .0) (l .i) (x .a) (c .before .lower .result) (s .pre .3) h (omega arith) (omega arith) (c .before .lower .ensures),
     )
 
 same-length : tie.Need-same-length Inv-loop μ-loop
@@ -91,10 +82,7 @@ weigh-spec =
     add-weights
     mul-weights
     slice-write-weights
-    sub-low
-    add-low
-    mul-low
-    slice-read-low
+    lower-requires
     mixed-requires
     add-i
     loop-less

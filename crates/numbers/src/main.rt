@@ -1,0 +1,11 @@
+// Document 01's numbers that are run and compared: a table of cases for each call, and a line for each case.
+mod patches;
+mod settings;
+mod symbols;
+mod text;
+
+fn main() {
+    settings::run();
+    symbols::run();
+    patches::run();
+}

@@ -1,0 +1,7 @@
+mod Scan
+mod Patch
+mod Front
+mod Lowest
+mod Pair
+mod Encoding
+pub mod Unique

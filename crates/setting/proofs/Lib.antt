@@ -1,0 +1,6 @@
+pub mod Arith
+pub mod Tests
+pub mod Call
+pub mod Accepted
+pub mod Taken
+pub mod Unique
