@@ -1,5 +1,5 @@
 -- The powers of y are a basis before any condition.
-use mathlib.Core.Path.{_≡_, refl, ap, _∙_}
+use mathlib.Core.Path.{_≡_, refl, ap}
 use mathlib.Core.Logic.{by-cases}
 use mathlib.Core.List.{List, []}
 use Prim.Native.Nat.{ℕ, _+_, _-_, _*_, _<_, _≤_}
@@ -16,7 +16,7 @@ use Rattle.buffers.proofs.Rows.{row-fits}
 use Rattle.demands.specs.Shape.{Shaped}
 use Rattle.finder.specs.Slot.{slot, place, Started}
 use Rattle.finder.specs.Kept.{view, Kept}
-use Rattle.finder.proofs.Slot.{off-fits}
+use Rattle.curve.proofs.Pairing.{row-inside}
 use Rattle.finder.proofs.Sweep.{place-in, slot-eq}
 use Rattle.finder.proofs.Turn.{place-eq}
 
@@ -32,13 +32,13 @@ module _ {q k w l : ℕ} (s : Shaped q k w l) (h : 1 < q) (work : List ℕ) (B :
 
   pub kept-start : (leads : List ℕ) → ((j : ℕ) → j ≤ l → getD leads j 0 ≡ 0) → Kept q h k w l [] leads work
   kept-start leads z = record {
-    basis = basis-same F L S (start F L S (view q h k w l work) (λ j u. omega (arith, off-fits s u)) (λ j v. ap (elt q h) (B .one j (omega (arith, v .column))))
+    basis = basis-same F L S (start F L S (view q h k w l work) (λ j u. omega (arith, row-inside k w l j (s .fits) u .0)) (λ j v. ap (elt q h) (B .one j (omega (arith, v .column))))
         (λ j i t v x n. ap (elt q h) (none-at j t i (v .column) (x .column) (omega (arith, x .inside)) n))) z (λ j v i t x. refl);
     least = λ Q a j M v. omega (arith, z j (v .within .column));
     small = λ j t i u v b. by-cases (ℕ-discrete i 0)
         (λ x. by-cases (ℕ-discrete t j) (λ y. rw (x, y, B .one j (omega arith)) h) (λ y. rw (none-at j t i u v b (λ n. y (n .1))) (omega arith)))
         (λ x. rw (none-at j t i u v b (λ n. x (n .0))) (omega arith));
-    clear = λ j t i u v b c. none-at j t i u v b (λ n. let f = off-fits s u in let g = ap (λ (t : ℕ). t * (k - 1)) (n .1) in omega arith);
+    clear = λ j t i u v b c. none-at j t i u v b (λ n. let f = row-inside k w l j (s .fits) u .0 in let g = ap (λ (t : ℕ). t * (k - 1)) (n .1) in omega arith);
   }
     where
       F : Ops

@@ -2,19 +2,19 @@
 use mathlib.Core.Path.{_≡_, sym, ap, subst, _∙_}
 use mathlib.Core.Logic.{⊎-elim}
 use mathlib.Core.List.{List, [], _∷_, map}
-use Prim.Native.Nat.{ℕ, zero, suc, _+_, _-_, _*_, _<_, _≤_}
+use Prim.Native.Nat.{ℕ, suc, _+_, _-_, _*_, _<_, _≤_}
 use native.Mathlib.Omega.{arith}
 use lib.Dec.{T, ltb, lt→ltb}
-use lib.ListN.{length, getD, take, drop, length-map, List·getD-map}
+use lib.ListN.{length, getD, length-map, List·getD-map}
 use Rattle.rules.specs.Lists.{below, sum, all}
 use Rattle.rules.specs.Field.{Ops, ops}
 use Rattle.rules.specs.Laws.{Laws}
 use Rattle.rules.specs.Code.{Triple}
-use Rattle.rules.specs.Curve.{coefficient, passes}
+use Rattle.rules.specs.Curve.{coefficient}
 use Rattle.rules.specs.Refusal.{under}
 use Rattle.rules.proofs.Tests.{and}
 use Rattle.algebra.specs.Hom.{move}
-use Rattle.algebra.specs.Conditions.{conditions, carry}
+use Rattle.algebra.specs.Conditions.{conditions}
 use Rattle.algebra.specs.Space.{Space, In, space, Best, Chosen}
 use Rattle.algebra.proofs.Basis.{end}
 use Rattle.algebra.proofs.Bridge.{passes-hom}

@@ -1,10 +1,10 @@
 -- The conditions so far grow by one, by those of one order in y, and by those of one triple.
 use mathlib.Core.Path.{_≡_, refl, sym, ap, subst, _∙_}
-use mathlib.Core.List.{List, [], _∷_, _++_, map, flatMap, append-nil, append-assoc}
-use Prim.Native.Nat.{ℕ, zero, suc, _+_, _-_, _*_, _<_, _≤_, Fin}
+use mathlib.Core.List.{List, [], _++_, map, flatMap, append-nil, append-assoc}
+use Prim.Native.Nat.{ℕ, _+_, _-_, _*_, _<_, _≤_, Fin}
 use native.Mathlib.Numerals.{add-one}
 use native.Mathlib.Omega.{arith}
-use lib.ListN.{length, getD, take, drop}
+use lib.ListN.{take, drop}
 use Rattle.rules.specs.Lists.{from, below}
 use Rattle.algebra.specs.Conditions.{Condition, condition, conditions-along, conditions-at}
 use Rattle.algebra.proofs.Plan.{map-more, flat-more, ready}

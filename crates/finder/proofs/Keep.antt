@@ -2,28 +2,27 @@
 use mathlib.Core.Path.{_≡_, refl, sym, ap, ap₂, _∙_}
 use mathlib.Core.Logic.{by-cases}
 use mathlib.Core.List.{List, [], _∷_, _++_}
-use Prim.Native.Nat.{ℕ, zero, suc, _+_, _-_, _*_, _%_, _<_, _≤_, Fin}
+use Prim.Native.Nat.{ℕ, zero, suc, _+_, _-_, _*_, _<_, _≤_, Fin}
 use native.Mathlib.Nat.{mod-eq-of-lt, zero-mod, pos-of-ne-zero}
 use native.Mathlib.Numerals.{add-one}
 use native.Mathlib.Decide.{ℕ-discrete, decLt}
 use native.Mathlib.Omega.{arith}
-use lib.Dec.{T}
 use lib.ListN.{length, getD, set}
 use lib.Seq.{getD-set-same, getD-set-other, getD-take, getD-drop}
-use Rattle.rules.specs.Field.{Ops, ops, plus, minus, times, modulus, inverse}
+use Rattle.rules.specs.Field.{Ops, ops, minus, times, inverse}
 use Rattle.rules.specs.Laws.{Laws}
 use Rattle.rules.specs.Curve.{coefficient}
 use Rattle.algebra.specs.Hom.{Hom}
 use Rattle.algebra.specs.Poly.{neg}
 use Rattle.algebra.specs.Conditions.{Condition, Ready, carry}
-use Rattle.algebra.specs.Space.{Space, In, space, rank, Curve, mix, shift, raised, Same, value, Basis, Pivot}
-use Rattle.algebra.proofs.Ring.{add-mul, nil-mul, mul-nil, add-neg, neg-add}
+use Rattle.algebra.specs.Space.{Space, In, space, mix, shift, raised, value, Pivot}
+use Rattle.algebra.proofs.Ring.{nil-mul, neg-add, clears}
 use Rattle.algebra.proofs.Conditions.{value-ext}
 use Rattle.algebra.proofs.Carry.{value-hom}
 use Rattle.algebra.proofs.Basis.{quiet, step}
 use Rattle.algebra.proofs.Least.{least-quiet, least-step}
 use Rattle.prime.specs.Field.{elt, field}
-use Rattle.prime.proofs.Below.{plus-below, times-below, minus-reduced}
+use Rattle.prime.proofs.Below.{plus-below, minus-reduced}
 use Rattle.prime.proofs.Laws.{laws}
 use Rattle.prime.proofs.Tests.{modulus-says}
 use Rattle.prime.proofs.Inverse.{inverse-is}
@@ -32,18 +31,11 @@ use Rattle.demands.proofs.Link.{elt-hom}
 use Rattle.curve.specs.Value.{pairing}
 use Rattle.curve.proofs.Pairing.{pairing-value}
 use Rattle.within.specs.Runs.{moved}
-use Rattle.finder.specs.Slot.{slot, place, share, curve-at, valued, raised-at, mixed-at, Treated, Swept}
+use Rattle.finder.specs.Slot.{slot, place, share, curve-at, valued, raised-at, Treated, Swept}
 use Rattle.finder.specs.Kept.{Fit, Row, First, view, Kept, Met}
 use Rattle.finder.proofs.Sweep.{place-in}
 use Rattle.finder.proofs.Values.{pairing-below, valued-alive}
 use Rattle.finder.proofs.Turn.{turn-outside, turn-stays, turn-loses, turn-raises}
-
--- where i takes y to one, x loses x·i of y
-clears : (O : Ops) (L : Laws O) (x y i : O .Symbol) → O .mul y i ≡ O .one → O .add x (O .mul (neg O (O .mul x i)) y) ≡ O .nil
-clears O L x y i h =
-    let q = O .mul x i in
-    let whole : x ≡ O .mul q y = sym (L .mul-assoc x i y ∙ ap (O .mul x) (L .mul-comm i y ∙ h) ∙ L .mul-one x) in
-    ap (λ z. O .add z (O .mul (neg O q) y)) whole ∙ sym (add-mul O L q (neg O q) y) ∙ ap (λ z. O .mul z y) (add-neg O L q) ∙ nil-mul O L y
 
 module _ {q k w l : ℕ} (s : Shaped q k w l) (h : 1 < q) where
   abbrev F : Ops

@@ -1,12 +1,12 @@
 -- How a slot is treated row by row.
-use mathlib.Core.Path.{_≡_, refl, sym, ap, ap₂, _∙_}
+use mathlib.Core.Path.{_≡_, refl, ap, ap₂, _∙_}
 use mathlib.Core.Logic.{⊎-elim, by-cases}
 use mathlib.Core.List.{List}
 use Prim.Native.Nat.{ℕ, zero, suc, _+_, _-_, _*_, _<_, _≤_}
-use native.Mathlib.Nat.{mul-le-mul-right, mul-le-mul}
+use native.Mathlib.Nat.{mul-le-mul}
 use native.Mathlib.Decide.{ℕ-discrete}
 use native.Mathlib.Omega.{arith}
-use lib.ListN.{length, getD}
+use lib.ListN.{getD}
 use lib.Arith.{digits-lt}
 use Rattle.rules.specs.Field.{plus, times}
 use Rattle.buffers.specs.Change.{Changed}
@@ -16,16 +16,8 @@ use Rattle.demands.specs.Shape.{Shaped}
 use Rattle.within.specs.Runs.{Apart, added, moved, shifted}
 use Rattle.finder.specs.Slot.{slot, place, mixed-at, raised-at, Treated}
 
-module _ {q k w l : ℕ} (s : Shaped q k w l) where
-  -- every row has a place in the space
-  pub off-fits : {t : ℕ} → t ≤ l → t * (k - 1) < w
-  off-fits h = omega (arith, mul-le-mul-right (k - 1) h, s .fits)
-
-  pub slot-small : slot w l ≤ 25 * 256
-  slot-small = mul-le-mul {n₂ = 25} {m₂ = 256} (omega (arith, s .few)) (s .narrow)
-
-pub row-in : (w : ℕ) {l t : ℕ} → t ≤ l → t * w + w ≤ slot w l
-row-in w {l} {t} h = row-fits {t = t} {n = l + 1} w (omega arith)
+pub slot-small : {q k w l : ℕ} → Shaped q k w l → slot w l ≤ 25 * 256
+slot-small s = mul-le-mul {n₂ = 25} {m₂ = 256} (omega (arith, s .few)) (s .narrow)
 
 pub treated-none : (f : ℕ → ℕ → ℕ) (at k w : ℕ) (d : List ℕ) → Treated f at k w 0 d d
 treated-none f at k w d = record { len = refl; new = λ t i l. absurd (omega arith); keep = λ m h. refl }
@@ -38,7 +30,7 @@ module _ {f : ℕ → ℕ → ℕ} {at k w n : ℕ} {d e : List ℕ} (h : Treate
   pub treated-away : {l from : ℕ} → n ≤ l → Apart from at (slot w l) → (i : ℕ) → i < w → getD e (from + place w n i) 0 ≡ getD d (from + place w n i) 0
   treated-away {l} {from} u p i v = h .keep _ (λ t j a b q.
       let z = digits-lt {q = t} {m = n} {r = j} {c = w} a (omega arith) in
-      let r = row-in w {l = l} {t = n} u in
+      let r = row-fits {t = n} {n = l + 1} w (omega arith) in
       ⊎-elim (λ x. omega arith) (λ x. omega arith) p)
 
   -- one more row

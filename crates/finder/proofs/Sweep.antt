@@ -1,18 +1,17 @@
 -- How the curves are swept one after the other: what is done to a slot leaves the others, and so the curve that is taken off.
-use mathlib.Core.Path.{_≡_, refl, sym, ap, ap₂, _∙_}
+use mathlib.Core.Path.{_≡_, refl, ap, ap₂, _∙_}
 use mathlib.Core.Logic.{⊎-elim, by-cases, inl, inr}
 use mathlib.Core.List.{List}
-use Prim.Native.Nat.{ℕ, _+_, _-_, _*_, _<_, _≤_}
+use Prim.Native.Nat.{ℕ, _+_, _-_, _*_, _<_}
 use native.Mathlib.Decide.{ℕ-discrete}
 use native.Mathlib.Omega.{arith}
-use lib.ListN.{length, getD}
+use lib.ListN.{getD}
 use Rattle.rules.specs.Field.{plus, times}
 use Rattle.algebra.proofs.Rank.{digit-eq}
 use Rattle.buffers.proofs.Change.{lt-or-ge}
 use Rattle.buffers.proofs.Rows.{row-fits}
 use Rattle.within.specs.Runs.{Apart}
 use Rattle.finder.specs.Slot.{slot, place, share, mixed-at, Treated, Swept}
-use Rattle.finder.proofs.Slot.{row-in}
 
 -- two slots have no place in common
 pub slots-apart : (s : ℕ) {j p : ℕ} → ¬ (j ≡ p) → Apart (p * s) (j * s) s
@@ -20,7 +19,7 @@ slots-apart s {j} {p} n = ⊎-elim (λ l. inr (row-fits s l)) (λ l. inl (row-fi
 
 -- a place of the curve is within its slot
 pub place-in : (w l : ℕ) {t i : ℕ} → t < l + 1 → i < w → place w t i < slot w l
-place-in w l {t} {i} u v = omega (arith, row-in w {l = l} {t = t} (omega arith))
+place-in w l {t} {i} u v = omega (arith, row-fits w u)
 
 pub slot-eq : (w l : ℕ) {j j′ t t′ i i′ : ℕ} → t < l + 1 → i < w → t′ < l + 1 → i′ < w → j * slot w l + place w t i ≡ j′ * slot w l + place w t′ i′ → j ≡ j′
 slot-eq w l {j} {j′} {t} {t′} {i} {i′} a b c d e = digit-eq (slot w l) j (place w t i) j′ (place w t′ i′) (place-in w l a b) (place-in w l c d) e .0

@@ -1,9 +1,9 @@
 -- What stands in the slots after the others are swept and the pivot is raised, place by place.
-use mathlib.Core.Path.{_≡_, refl, sym, ap, ap₂, _∙_}
+use mathlib.Core.Path.{_≡_, refl, ap₂, _∙_}
 use mathlib.Core.List.{List}
 use Prim.Native.Nat.{ℕ, zero, suc, _+_, _-_, _*_, _<_, _≤_}
 use native.Mathlib.Omega.{arith}
-use lib.ListN.{length, getD}
+use lib.ListN.{getD}
 use Rattle.rules.specs.Field.{plus, times}
 use Rattle.algebra.proofs.Rank.{digit-eq}
 use Rattle.within.specs.Runs.{moved}

@@ -1,7 +1,7 @@
 -- along: the conditions of the first a orders in x are met.
 use mathlib.Core.Path.{_≡_, _∙_}
 use mathlib.Core.List.{map}
-use Prim.Native.Nat.{ℕ, _+_, _-_, _*_, _<_, _≤_}
+use Prim.Native.Nat.{ℕ, _+_, _-_, _*_, _≤_}
 use lib.ListN.{length}
 use Rattle.rules.specs.Lists.{below}
 use Rattle.algebra.specs.Conditions.{condition}
@@ -45,9 +45,11 @@ part-condition-end c = search needs
 
 condition-requires : tie.Need-condition-requires Inv-loop μ-loop
 condition-requires c κs =
-    let a = c .before .before .before .before .before .before .before .before .before .args in
-    let o = c .before .before .before .before .loop in
-    let p = c .before .before .before .before .before .before .before .before .before .pre in
+    let at-loop = c .before .before .before .before in
+    let start = at-loop .before .before .before .before .before in
+    let a = start .args in
+    let o = at-loop .loop in
+    let p = start .pre in
     (p .0, len-mid (o .a * 256) (o .a * 256 + a .w - o .a * 256) (a .xs .now) (omega (arith, p .0 .narrow)) ∙ omega arith, p .3, omega (arith, p .4, o .inv .1), o .inv .3, omega (arith, p .6, o .inv .2))
 
 add-a : tie.Need-add-a Inv-loop μ-loop
@@ -58,10 +60,13 @@ loop-less c = search needs
 
 loop-again : tie.Need-loop-again Inv-loop μ-loop
 loop-again c =
-    let a = c .before .before .before .before .before .before .before .before .before .before .before .before .before .before .args in
-    let o = c .before .before .before .before .before .before .before .before .before .loop in
-    let p = c .before .before .before .before .before .before .before .before .before .before .before .before .before .before .pre in
-    let d = c .before .before .before .before .condition in (
+    let at-condition = c .before .before .before .before in
+    let at-loop = at-condition .before .before .before .before .before in
+    let start = at-loop .before .before .before .before .before in
+    let a = start .args in
+    let o = at-loop .loop in
+    let p = start .pre in
+    let d = at-condition .condition in (
       search needs,
       d .kept .1 .1 .1 .1 .1 .1 .1 .0 ∙ o .inv .1,
       d .kept .1 .1 .1 .1 .1 .1 .1 .1 .0 ∙ o .inv .2,
@@ -77,8 +82,9 @@ same-length-2 c = search needs
 
 returns : tie.Need-returns Inv-loop μ-loop
 returns c =
+    let start = c .before .before .before .before .before .before in
     let o = c .before .loop in
-    let z : o .a ≡ c .before .before .before .before .before .before .args .n = omega arith in
+    let z : o .a ≡ start .args .n = omega arith in
     (o .inv .3, λ r b m X Y. rw z at (o .inv .4 r b m X Y))
 
 pub along-spec : {M : Type 1} → statement M

@@ -1,7 +1,7 @@
 -- by_weights: the conditions of the first b orders in y are met.
 use mathlib.Core.Path.{_≡_, _∙_}
 use mathlib.Core.List.{flatMap}
-use Prim.Native.Nat.{ℕ, _+_, _-_, _*_, _<_, _≤_}
+use Prim.Native.Nat.{ℕ, _+_, _-_, _*_, _≤_}
 use lib.ListN.{length}
 use Rattle.rules.specs.Lists.{below}
 use Rattle.algebra.specs.Conditions.{conditions-along}
@@ -51,9 +51,11 @@ part-along-end c = search needs
 
 along-requires : tie.Need-along-requires Inv-loop μ-loop
 along-requires c κs =
-    let a = c .before .before .before .before .before .before .before .before .before .args in
-    let o = c .before .before .before .before .loop in
-    let p = c .before .before .before .before .before .before .before .before .before .pre in
+    let at-loop = c .before .before .before .before in
+    let start = at-loop .before .before .before .before .before in
+    let a = start .args in
+    let o = at-loop .loop in
+    let p = start .pre in
     let n = a .l + 1 in
     (p .0, omega (arith, p .1), p .2, len-mid (o .b * 256) (o .b * 256 + n - o .b * 256) (a .ys .now) (omega (arith, p .0 .few)) ∙ omega arith, omega (arith, p .4, o .inv .1), o .inv .3, omega (arith, p .6, o .inv .2))
 
@@ -65,10 +67,13 @@ loop-less c = search needs
 
 loop-again : tie.Need-loop-again Inv-loop μ-loop
 loop-again c =
-    let a = c .before .before .before .before .before .before .before .before .before .before .before .before .before .before .args in
-    let o = c .before .before .before .before .before .before .before .before .before .loop in
-    let p = c .before .before .before .before .before .before .before .before .before .before .before .before .before .before .pre in
-    let d = c .before .before .before .before .along in (
+    let at-along = c .before .before .before .before in
+    let at-loop = at-along .before .before .before .before .before in
+    let start = at-loop .before .before .before .before .before in
+    let a = start .args in
+    let o = at-loop .loop in
+    let p = start .pre in
+    let d = at-along .along in (
       search needs,
       d .kept .1 .1 .1 .1 .1 .1 .1 .1 .0 ∙ o .inv .1,
       d .kept .1 .1 .1 .1 .1 .1 .1 .1 .1 .0 ∙ o .inv .2,
@@ -84,8 +89,9 @@ same-length-2 c = search needs
 
 returns : tie.Need-returns Inv-loop μ-loop
 returns c =
+    let start = c .before .before .before .before .before .before in
     let o = c .before .loop in
-    let z : o .b ≡ c .before .before .before .before .before .before .args .m = omega arith in
+    let z : o .b ≡ start .args .m = omega arith in
     (o .inv .3, λ r X Y. orders-all _ _ _ _ _ r _ (rw z at (o .inv .4 r X Y)))
 
 pub by-weights-spec : {M : Type 1} → statement M

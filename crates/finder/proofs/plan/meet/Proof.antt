@@ -1,5 +1,4 @@
 -- meet: what is said of any weights holds of those made here.
-use native.Mathlib.Omega.{arith}
 use borrow.Author.Needs.{needs}
 use Rattle.finder.proofs.plan.meet.Statement.{statement}
 use Rattle.finder.proofs.plan.meet.Tie as tie
@@ -36,8 +35,12 @@ same-length-2 c = search needs
 
 returns : tie.Need-returns
 returns c =
-    let d = c .before .before .before .before .by-weights .ensures in
-    (d .0, d .1 (c .before .before .before .before .before .before .before .before .before .before .before .before .before .before .before .before .before .args .symbol) (c .before .before .before .before .before .before .before .before .before .before .before .before .before .weigh-all .ensures) (c .before .before .before .before .before .before .before .before .before .before .weigh-all2 .ensures))
+    let at-by-weights = c .before .before .before .before in
+    let at-weigh-all2 = at-by-weights .before .before .before .before .before .before in
+    let at-weigh-all = at-weigh-all2 .before .before .before in
+    let start = at-weigh-all .before .before .before .before in
+    let d = at-by-weights .by-weights .ensures in
+    (d .0, d .1 (start .args .symbol) (at-weigh-all .weigh-all .ensures) (at-weigh-all2 .weigh-all2 .ensures))
 
 pub meet-spec : {M : Type 1} → statement M
 meet-spec =

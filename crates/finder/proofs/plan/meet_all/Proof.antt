@@ -1,7 +1,7 @@
 -- meet_all: the conditions of the first j triples are met.
 use mathlib.Core.Path.{_≡_, _∙_}
 use mathlib.Core.List.{map}
-use Prim.Native.Nat.{_+_, _-_, _*_, _<_, _≤_}
+use Prim.Native.Nat.{_-_, _≤_}
 use lib.ListN.{length, take}
 use Rattle.algebra.specs.Hom.{move}
 use Rattle.algebra.specs.Conditions.{conditions}
@@ -23,7 +23,9 @@ abbrev μ-loop : tie.MeasureT-loop
 μ-loop q k w l points word times leads₀ work₀ j₀ leads work j = length points - j
 
 loop-holds : tie.Need-loop-holds Inv-loop μ-loop
-loop-holds c = (search needs, search needs, search needs, c .before .before .before .before .before .pre .5, let a = c .before .before .before .before .before .args in triples-none (a .q) (a .k) (a .w) (a .l) (a .points .now) (a .word .now) (a .times .now) _ _)
+loop-holds c =
+    let start = c .before .before .before .before .before in
+    (search needs, search needs, search needs, start .pre .5, let a = start .args in triples-none (a .q) (a .k) (a .w) (a .l) (a .points .now) (a .word .now) (a .times .now) _ _)
 
 mul-m : tie.Need-mul-m Inv-loop μ-loop
 mul-m c = search needs
@@ -32,7 +34,9 @@ shared-slice-read-m : tie.Need-shared-slice-read-m Inv-loop μ-loop
 shared-slice-read-m c = search needs
 
 cast-m : tie.Need-cast-m Inv-loop μ-loop
-cast-m c = omega (arith, c .before .before .before .before .before .before .before .before .pre .3 (c .before .before .loop .j) (omega (arith, c .before .before .before .before .before .before .before .before .pre .2)))
+cast-m c =
+    let start = c .before .before .before .before .before .before .before .before in
+    omega (arith, start .pre .3 (c .before .before .loop .j) (omega (arith, start .pre .2)))
 
 mul-meet : tie.Need-mul-meet Inv-loop μ-loop
 mul-meet c = search needs
@@ -48,8 +52,10 @@ shared-slice-read-meet-2 c = search needs
 
 meet-requires : tie.Need-meet-requires Inv-loop μ-loop
 meet-requires c κs =
-    let o = c .before .before .before .before .before .before .loop in
-    let p = c .before .before .before .before .before .before .before .before .before .before .before .before .pre in
+    let at-loop = c .before .before .before .before .before .before in
+    let start = at-loop .before .before .before .before .before .before in
+    let o = at-loop .loop in
+    let p = start .pre in
     (p .0, p .3 (o .j) (omega (arith, p .2)), omega (arith, p .4, o .inv .1), o .inv .3, omega (arith, p .6, o .inv .2))
 
 add-j : tie.Need-add-j Inv-loop μ-loop
@@ -60,9 +66,12 @@ loop-less c = search needs
 
 loop-again : tie.Need-loop-again Inv-loop μ-loop
 loop-again c =
-    let o = c .before .before .before .before .before .before .before .before .before .before .before .loop in
-    let p = c .before .before .before .before .before .before .before .before .before .before .before .before .before .before .before .before .before .pre in
-    let d = c .before .before .before .before .meet in (
+    let at-meet = c .before .before .before .before in
+    let at-loop = at-meet .before .before .before .before .before .before .before in
+    let start = at-loop .before .before .before .before .before .before in
+    let o = at-loop .loop in
+    let p = start .pre in
+    let d = at-meet .meet in (
       search needs,
       d .kept .1 .1 .1 .1 .1 .1 .1 .0 ∙ o .inv .1,
       d .kept .1 .1 .1 .1 .1 .1 .1 .1 .0 ∙ o .inv .2,
@@ -77,7 +86,9 @@ same-length-2 : tie.Need-same-length-2 Inv-loop μ-loop
 same-length-2 c = search needs
 
 returns : tie.Need-returns Inv-loop μ-loop
-returns c = let o = c .before .loop in (o .inv .3, triples-all _ _ _ _ _ _ _ (o .j) (c .before .before .before .before .before .before .before .pre .1) (c .before .before .before .before .before .before .before .pre .2) (omega arith) (o .inv .4))
+returns c =
+    let start = c .before .before .before .before .before .before .before in
+    let o = c .before .loop in (o .inv .3, triples-all _ _ _ _ _ _ _ (o .j) (start .pre .1) (start .pre .2) (omega arith) (o .inv .4))
 
 pub meet-all-spec : {M : Type 1} → statement M
 meet-all-spec =

@@ -5,7 +5,8 @@ use Prim.Native.Nat.{_+_, _-_, _*_, _≤_}
 use Rattle.rules.specs.Field.{minus}
 use Rattle.buffers.proofs.Rows.{row-end}
 use Rattle.finder.specs.Slot.{raised-at, Treated}
-use Rattle.finder.proofs.Slot.{off-fits, row-in, treated-none, raise-more}
+use Rattle.curve.proofs.Pairing.{row-inside}
+use Rattle.finder.proofs.Slot.{treated-none, raise-more}
 use native.Mathlib.Omega.{arith}
 use borrow.Author.Needs.{needs}
 use Rattle.finder.proofs.slots.raise.Statement.{statement}
@@ -24,21 +25,30 @@ loop-holds : tie.Need-loop-holds Inv-loop μ-loop
 loop-holds c = (search needs, search needs, search needs, treated-none _ _ _ _ _, c .sub .ensures)
 
 sub-shift-add : tie.Need-sub-shift-add Inv-loop μ-loop
-sub-shift-add c = omega (arith, off-fits (c .before .before .before .before .before .pre .0) {t = c .before .before .loop .t} (omega arith))
+sub-shift-add c =
+    let start = c .before .before .before .before .before in
+    omega (arith, row-inside (start .args .k) (start .args .w) (start .args .l) (c .before .before .loop .t) (start .pre .0 .fits) (omega arith))
 
 shift-add-requires : tie.Need-shift-add-requires Inv-loop μ-loop
 shift-add-requires c κs =
-    let r = row-in (c .before .before .before .before .before .args .w) {l = c .before .before .before .before .before .args .l} {t = c .before .before .loop .t} (omega arith) in
-    (c .before .before .before .before .before .pre .0 .field, inl refl, omega arith, omega arith)
+    let start = c .before .before .before .before .before in
+    let r = row-inside (start .args .k) (start .args .w) (start .args .l) (c .before .before .loop .t) (start .pre .0 .fits) (omega arith) in
+    (start .pre .0 .field, inl refl, omega arith, omega arith)
 
 add-row : tie.Need-add-row Inv-loop μ-loop
-add-row c = omega (arith, row-in (c .before .before .before .before .before .before .before .before .args .w) {l = c .before .before .before .before .before .before .before .before .args .l} {t = c .before .before .before .before .before .loop .t} (omega arith))
+add-row c =
+    let at-loop = c .before .before .before .before .before in
+    let start = at-loop .before .before .before in
+    omega (arith, row-inside (start .args .k) (start .args .w) (start .args .l) (at-loop .loop .t) (start .pre .0 .fits) (omega arith))
 
 sub-off : tie.Need-sub-off Inv-loop μ-loop
 sub-off c = search needs
 
 add-off : tie.Need-add-off Inv-loop μ-loop
-add-off c = omega (arith, off-fits (c .before .before .before .before .before .before .before .before .pre .0) {t = c .before .before .before .before .before .loop .t} (omega arith))
+add-off c =
+    let at-loop = c .before .before .before .before .before in
+    let start = at-loop .before .before .before in
+    omega (arith, row-inside (start .args .k) (start .args .w) (start .args .l) (at-loop .loop .t) (start .pre .0 .fits) (omega arith))
 
 add-t : tie.Need-add-t Inv-loop μ-loop
 add-t c = search needs
@@ -48,8 +58,10 @@ loop-less c = search needs
 
 loop-again : tie.Need-loop-again Inv-loop μ-loop
 loop-again c =
-    let a = c .before .before .before .before .before .before .before .before .args in
-    let o = c .before .before .before .before .before .loop in (
+    let at-loop = c .before .before .before .before .before in
+    let start = at-loop .before .before .before in
+    let a = start .args in
+    let o = at-loop .loop in (
       search needs,
       omega (arith, row-end (o .t) (a .w)),
       omega (arith, row-end (o .t) (a .k - 1)),

@@ -4,7 +4,8 @@ use mathlib.Core.Logic.{inl, inr, ⊎-elim}
 use Prim.Native.Nat.{_+_, _-_, _*_, _≤_}
 use Rattle.buffers.proofs.Rows.{row-end}
 use Rattle.finder.specs.Slot.{mixed-at, Treated}
-use Rattle.finder.proofs.Slot.{off-fits, row-in, treated-none, reduce-more}
+use Rattle.curve.proofs.Pairing.{row-inside}
+use Rattle.finder.proofs.Slot.{treated-none, reduce-more}
 use native.Mathlib.Omega.{arith}
 use borrow.Author.Needs.{needs}
 use Rattle.finder.proofs.slots.reduce.Statement.{statement}
@@ -20,27 +21,40 @@ loop-holds : tie.Need-loop-holds Inv-loop μ-loop
 loop-holds c = (search needs, search needs, search needs, treated-none _ _ _ _ _)
 
 add-add-within : tie.Need-add-add-within Inv-loop μ-loop
-add-add-within c = omega (arith, row-in (c .before .before .before .before .args .w) {l = c .before .before .before .before .args .l} {t = c .before .before .loop .t} (omega arith))
+add-add-within c =
+    let start = c .before .before .before .before in
+    omega (arith, row-inside (start .args .k) (start .args .w) (start .args .l) (c .before .before .loop .t) (start .pre .0 .fits) (omega arith))
 
 add-add-within-2 : tie.Need-add-add-within-2 Inv-loop μ-loop
-add-add-within-2 c = omega (arith, row-in (c .before .before .before .before .args .w) {l = c .before .before .before .before .args .l} {t = c .before .before .loop .t} (omega arith))
+add-add-within-2 c =
+    let start = c .before .before .before .before in
+    omega (arith, row-inside (start .args .k) (start .args .w) (start .args .l) (c .before .before .loop .t) (start .pre .0 .fits) (omega arith))
 
 sub-add-within : tie.Need-sub-add-within Inv-loop μ-loop
-sub-add-within c = omega (arith, off-fits (c .before .before .before .before .pre .0) {t = c .before .before .loop .t} (omega arith))
+sub-add-within c =
+    let start = c .before .before .before .before in
+    omega (arith, row-inside (start .args .k) (start .args .w) (start .args .l) (c .before .before .loop .t) (start .pre .0 .fits) (omega arith))
 
 add-within-requires : tie.Need-add-within-requires Inv-loop μ-loop
 add-within-requires c κs =
-    let r = row-in (c .before .before .before .before .args .w) {l = c .before .before .before .before .args .l} {t = c .before .before .loop .t} (omega arith) in
-    (c .before .before .before .before .pre .0 .field, ⊎-elim (λ x. inl (omega arith)) (λ x. inr (omega arith)) (c .before .before .before .before .pre .1), omega arith, omega arith)
+    let start = c .before .before .before .before in
+    let r = row-inside (start .args .k) (start .args .w) (start .args .l) (c .before .before .loop .t) (start .pre .0 .fits) (omega arith) in
+    (start .pre .0 .field, ⊎-elim (λ x. inl (omega arith)) (λ x. inr (omega arith)) (start .pre .1), omega arith, omega arith)
 
 add-row : tie.Need-add-row Inv-loop μ-loop
-add-row c = omega (arith, row-in (c .before .before .before .before .before .before .before .args .w) {l = c .before .before .before .before .before .before .before .args .l} {t = c .before .before .before .before .before .loop .t} (omega arith))
+add-row c =
+    let at-loop = c .before .before .before .before .before in
+    let start = at-loop .before .before in
+    omega (arith, row-inside (start .args .k) (start .args .w) (start .args .l) (at-loop .loop .t) (start .pre .0 .fits) (omega arith))
 
 sub-off : tie.Need-sub-off Inv-loop μ-loop
 sub-off c = search needs
 
 add-off : tie.Need-add-off Inv-loop μ-loop
-add-off c = omega (arith, off-fits (c .before .before .before .before .before .before .before .pre .0) {t = c .before .before .before .before .before .loop .t} (omega arith))
+add-off c =
+    let at-loop = c .before .before .before .before .before in
+    let start = at-loop .before .before in
+    omega (arith, row-inside (start .args .k) (start .args .w) (start .args .l) (at-loop .loop .t) (start .pre .0 .fits) (omega arith))
 
 add-t : tie.Need-add-t Inv-loop μ-loop
 add-t c = search needs
@@ -50,12 +64,14 @@ loop-less c = search needs
 
 loop-again : tie.Need-loop-again Inv-loop μ-loop
 loop-again c =
-    let a = c .before .before .before .before .before .before .before .args in
-    let o = c .before .before .before .before .before .loop in (
+    let at-loop = c .before .before .before .before .before in
+    let start = at-loop .before .before in
+    let a = start .args in
+    let o = at-loop .loop in (
       search needs,
       omega (arith, row-end (o .t) (a .w)),
       omega (arith, row-end (o .t) (a .k - 1)),
-      reduce-more (a .q) (a .c) (a .k) (a .w) (a .l) (a .from) (a .to) (o .t) (c .before .before .before .before .before .before .before .pre .1) (omega arith) (o .inv .3) (c .before .before .add-within .ensures) (o .inv .1) (o .inv .2),
+      reduce-more (a .q) (a .c) (a .k) (a .w) (a .l) (a .from) (a .to) (o .t) (start .pre .1) (omega arith) (o .inv .3) (c .before .before .add-within .ensures) (o .inv .1) (o .inv .2),
     )
 
 same-length : tie.Need-same-length Inv-loop μ-loop

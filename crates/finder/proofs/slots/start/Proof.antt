@@ -42,38 +42,48 @@ clear-requires c κs = search needs
 
 loop-holds : tie.Need-loop-holds Inv-loop μ-loop
 loop-holds c =
-    let a = c .before .before .before .before .before .before .args in
-    let r = ap (λ (x : ℕ). (a .l + 1) * x) (c .before .before .before .before .room .ensures) in
-    let d = cleared ((a .l + 1) * c .before .before .before .before .room .result) (a .work .now) (c .before .before .clear .last .0) (omega arith) (c .before .before .clear .ensures) in
-    (search needs, search needs, c .before .before .before .before .room .ensures, omega (arith, d .len), seeded-none _ _ _)
+    let at-room = c .before .before .before .before in
+    let start = at-room .before .before in
+    let a = start .args in
+    let r = ap (λ (x : ℕ). (a .l + 1) * x) (at-room .room .ensures) in
+    let d = cleared ((a .l + 1) * at-room .room .result) (a .work .now) (c .before .before .clear .last .0) (omega arith) (c .before .before .clear .ensures) in
+    (search needs, search needs, at-room .room .ensures, omega (arith, d .len), seeded-none _ _ _)
 
 mul-work : tie.Need-mul-work Inv-loop μ-loop
 mul-work c =
-    let a = c .before .before .before .before .before .before .before .before .args in
+    let at-here = c .before .before .before .before .before .before .before .before in
+    let start = at-here in
+    let a = start .args in
     let o = c .before .loop in
-    let b : o .at < length (o .work) = omega (arith, c .before .before .before .before .before .before .before .before .pre, o .inv .4 .len, place-in (a .w) (a .l) {t = o .j} {i = 0} (omega arith) (c .before .before .before .before .before .before .before .before .pre .0 .some), row-fits {t = o .j} {n = a .l + 1} (slot (a .w) (a .l)) (omega arith)) in
+    let b : o .at < length (o .work) = omega (arith, start .pre, o .inv .4 .len, place-in (a .w) (a .l) {t = o .j} {i = 0} (omega arith) (start .pre .0 .some), row-fits {t = o .j} {n = a .l + 1} (slot (a .w) (a .l)) (omega arith)) in
     search needs
 
 slice-write-work : tie.Need-slice-write-work Inv-loop μ-loop
 slice-write-work c =
-    let a = c .before .before .before .before .before .before .before .before .args in
+    let at-here = c .before .before .before .before .before .before .before .before in
+    let start = at-here in
+    let a = start .args in
     let o = c .before .loop in
-    let b : o .at < length (o .work) = omega (arith, c .before .before .before .before .before .before .before .before .pre, o .inv .4 .len, place-in (a .w) (a .l) {t = o .j} {i = 0} (omega arith) (c .before .before .before .before .before .before .before .before .pre .0 .some), row-fits {t = o .j} {n = a .l + 1} (slot (a .w) (a .l)) (omega arith)) in
+    let b : o .at < length (o .work) = omega (arith, start .pre, o .inv .4 .len, place-in (a .w) (a .l) {t = o .j} {i = 0} (omega arith) (start .pre .0 .some), row-fits {t = o .j} {n = a .l + 1} (slot (a .w) (a .l)) (omega arith)) in
     b
 
 add-at : tie.Need-add-at Inv-loop μ-loop
 add-at c =
-    let a = c .before .before .before .before .before .before .before .before .args in
+    let at-here = c .before .before .before .before .before .before .before .before in
+    let start = at-here in
+    let a = start .args in
     let o = c .before .loop in
-    let b : o .at < length (o .work) = omega (arith, c .before .before .before .before .before .before .before .before .pre, o .inv .4 .len, place-in (a .w) (a .l) {t = o .j} {i = 0} (omega arith) (c .before .before .before .before .before .before .before .before .pre .0 .some), row-fits {t = o .j} {n = a .l + 1} (slot (a .w) (a .l)) (omega arith)) in
-    omega (arith, slot-small (c .before .before .before .before .before .before .before .before .pre .0))
+    let b : o .at < length (o .work) = omega (arith, start .pre, o .inv .4 .len, place-in (a .w) (a .l) {t = o .j} {i = 0} (omega arith) (start .pre .0 .some), row-fits {t = o .j} {n = a .l + 1} (slot (a .w) (a .l)) (omega arith)) in
+    omega (arith, slot-small (start .pre .0))
 
 add-at-2 : tie.Need-add-at-2 Inv-loop μ-loop
 add-at-2 c =
-    let a = c .before .before .before .before .before .before .before .before .args in
+    let at-here = c .before .before .before .before .before .before .before .before in
+    let start = at-here in
+    let a = start .args in
     let o = c .before .loop in
-    let b : o .at < length (o .work) = omega (arith, c .before .before .before .before .before .before .before .before .pre, o .inv .4 .len, place-in (a .w) (a .l) {t = o .j} {i = 0} (omega arith) (c .before .before .before .before .before .before .before .before .pre .0 .some), row-fits {t = o .j} {n = a .l + 1} (slot (a .w) (a .l)) (omega arith)) in
-    omega (arith, slot-small (c .before .before .before .before .before .before .before .before .pre .0))
+    let b : o .at < length (o .work) = omega (arith, start .pre, o .inv .4 .len, place-in (a .w) (a .l) {t = o .j} {i = 0} (omega arith) (start .pre .0 .some), row-fits {t = o .j} {n = a .l + 1} (slot (a .w) (a .l)) (omega arith)) in
+    omega (arith, slot-small (start .pre .0))
 
 add-j : tie.Need-add-j Inv-loop μ-loop
 add-j c = search needs
@@ -83,29 +93,37 @@ loop-less c = search needs
 
 loop-again : tie.Need-loop-again Inv-loop μ-loop
 loop-again c =
-    let a = c .before .before .before .before .before .before .before .before .args in
+    let at-here = c .before .before .before .before .before .before .before .before in
+    let start = at-here in
+    let a = start .args in
     let o = c .before .loop in
-    let b : o .at < length (o .work) = omega (arith, c .before .before .before .before .before .before .before .before .pre, o .inv .4 .len, place-in (a .w) (a .l) {t = o .j} {i = 0} (omega arith) (c .before .before .before .before .before .before .before .before .pre .0 .some), row-fits {t = o .j} {n = a .l + 1} (slot (a .w) (a .l)) (omega arith)) in (
+    let b : o .at < length (o .work) = omega (arith, start .pre, o .inv .4 .len, place-in (a .w) (a .l) {t = o .j} {i = 0} (omega arith) (start .pre .0 .some), row-fits {t = o .j} {n = a .l + 1} (slot (a .w) (a .l)) (omega arith)) in (
       search needs,
       omega (arith, row-end (o .j) (slot (a .w) (a .l)), row-end (o .j) (a .w)),
       o .inv .2,
       o .inv .3,
-      seeded-more _ _ _ (o .at) (c .before .before .before .before .before .before .before .before .pre .0 .some) (omega arith) (o .inv .4) (o .inv .1) (omega (arith, o .inv .4 .len)),
+      seeded-more _ _ _ (o .at) (start .pre .0 .some) (omega arith) (o .inv .4) (o .inv .1) (omega (arith, o .inv .4 .len)),
     )
 
 same-length : tie.Need-same-length Inv-loop μ-loop
 same-length c =
-    let a = c .before .before .before .before .before .before .before .before .args in
-    let r = ap (λ (x : ℕ). (a .l + 1) * x) (c .before .before .before .before .before .before .room .ensures) in
-    let d = cleared ((a .l + 1) * c .before .before .before .before .before .before .room .result) (a .work .now) (c .before .before .before .before .clear .last .0) (omega arith) (c .before .before .before .before .clear .ensures) in
+    let at-clear = c .before .before .before .before in
+    let at-room = at-clear .before .before in
+    let start = at-room .before .before in
+    let a = start .args in
+    let r = ap (λ (x : ℕ). (a .l + 1) * x) (at-room .room .ensures) in
+    let d = cleared ((a .l + 1) * at-room .room .result) (a .work .now) (at-clear .clear .last .0) (omega arith) (at-clear .clear .ensures) in
     omega (arith, d .len, c .before .loop .inv .4 .len)
 
 returns : tie.Need-returns Inv-loop μ-loop
 returns c =
-    let a = c .before .before .before .before .before .before .before .before .args in
+    let at-clear = c .before .before .before .before in
+    let at-room = at-clear .before .before in
+    let start = at-room .before .before in
+    let a = start .args in
     let o = c .before .loop in
-    let r = ap (λ (x : ℕ). (a .l + 1) * x) (c .before .before .before .before .before .before .room .ensures) in
-    let d = cleared ((a .l + 1) * c .before .before .before .before .before .before .room .result) (a .work .now) (c .before .before .before .before .clear .last .0) (omega arith) (c .before .before .before .before .clear .ensures) in
+    let r = ap (λ (x : ℕ). (a .l + 1) * x) (at-room .room .ensures) in
+    let d = cleared ((a .l + 1) * at-room .room .result) (a .work .now) (at-clear .clear .last .0) (omega arith) (at-clear .clear .ensures) in
     let z : o .j ≡ a .l + 1 = omega arith in
     seeded-started _ _ _ (rw z at (o .inv .4)) (λ m u. changed-front d m (omega arith))
 

@@ -43,18 +43,23 @@ sub-requires c κs = search needs
 
 reduce-requires : tie.Need-reduce-requires Inv-loop μ-loop
 reduce-requires c κs =
-    let a = c .before .before .before .before .before .before .before .before .before .before .args in
-    let o = c .before .before .before .before .before .before .loop in
+    let at-if1 = c .before .before .before in
+    let at-loop = at-if1 .before .before .before in
+    let start = at-loop .before .before .before .before in
+    let a = start .args in
+    let o = at-loop .loop in
     let s = slot (a .w) (a .l) in
-    let n : ¬ (o .j ≡ a .p) = λ z. c .before .before .before .if1 .taken (ap (λ (j : ℕ). getD (a .values .now) j 0) z ∙ c .before .before .before .before .before .before .before .before .before .before .pre .3) in
+    let n : ¬ (o .j ≡ a .p) = λ z. at-if1 .if1 .taken (ap (λ (j : ℕ). getD (a .values .now) j 0) z ∙ start .pre .3) in
     let f = row-fits {t = a .p} {n = a .l + 1} s (omega arith) in
     let g = row-fits {t = o .j} {n = a .l + 1} s (omega arith) in
-    (c .before .before .before .before .before .before .before .before .before .before .pre .0, ⊎-elim (λ x. inl (omega arith)) (λ x. inr (omega arith)) (slots-apart s n), omega (arith, o .inv .4 .len), omega (arith, o .inv .4 .len))
+    (start .pre .0, ⊎-elim (λ x. inl (omega arith)) (λ x. inr (omega arith)) (slots-apart s n), omega (arith, o .inv .4 .len), omega (arith, o .inv .4 .len))
 
 add-at : tie.Need-add-at Inv-loop μ-loop
 add-at c =
-    let a = c .before .before .before .before .before .before .before .args in
-    omega (arith, c .before .before .before .loop .inv .1, c .before .before .before .loop .inv .2, c .before .before .before .before .before .before .before .pre .4, row-fits {t = c .before .before .before .loop .j} {n = a .l + 1} (slot (a .w) (a .l)) (omega arith))
+    let at-loop = c .before .before .before in
+    let start = at-loop .before .before .before .before in
+    let a = start .args in
+    omega (arith, at-loop .loop .inv .1, at-loop .loop .inv .2, start .pre .4, row-fits {t = at-loop .loop .j} {n = a .l + 1} (slot (a .w) (a .l)) (omega arith))
 
 add-j : tie.Need-add-j Inv-loop μ-loop
 add-j c = search needs
@@ -64,14 +69,16 @@ loop-less c = search needs
 
 loop-again : tie.Need-loop-again Inv-loop μ-loop
 loop-again c =
-    let a = c .before .before .before .before .before .before .before .args in
-    let o = c .before .before .before .loop in (
+    let at-loop = c .before .before .before in
+    let start = at-loop .before .before .before .before in
+    let a = start .args in
+    let o = at-loop .loop in (
       search needs,
       omega (arith, row-end (o .j) (slot (a .w) (a .l))),
       o .inv .2,
       o .inv .3,
       ⊎-elim
-          (λ x. rw (x .7) (swept-more _ _ _ _ _ _ _ _ (o .inv .4) _ (o .inv .3) (o .inv .1) (c .before .before .before .before .before .before .before .pre .3) (x .0 .taken)
+          (λ x. rw (x .7) (swept-more _ _ _ _ _ _ _ _ (o .inv .4) _ (o .inv .3) (o .inv .1) (start .pre .3) (x .0 .taken)
           (x .2 .ensures ∙ ap (λ (v : ℕ). minus (a .q) 0 v) (x .1 .ensures)) (x .4 .ensures)))
           (λ x. rw (x .1) (swept-skip _ _ _ _ _ _ _ _ (o .inv .4) (x .0 .left)))
           (c .if1 .came),

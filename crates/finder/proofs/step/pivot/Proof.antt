@@ -1,10 +1,10 @@
 -- pivot: the scan over the first j curves.
-use mathlib.Core.Path.{_≡_, _∙_, sym}
+use mathlib.Core.Path.{_≡_}
 use mathlib.Core.Logic.{inl, inr, ⊎-elim}
 use Prim.Native.Nat.{_+_, _-_, _*_, _≤_}
 use lib.ListN.{getD}
 use Rattle.buffers.proofs.Rows.{row-end}
-use Rattle.finder.proofs.Slot.{off-fits}
+use Rattle.curve.proofs.Pairing.{row-inside}
 use Rattle.finder.proofs.Scan.{Scan, scan-none, scan-skip, scan-take, scan-picked}
 use native.Mathlib.Omega.{arith}
 use borrow.Author.Needs.{needs}
@@ -42,7 +42,10 @@ sub-off : tie.Need-sub-off Inv-loop μ-loop
 sub-off c = search needs
 
 add-off : tie.Need-add-off Inv-loop μ-loop
-add-off c = omega (arith, off-fits (c .before .before .before .before .before .pre .0) {t = c .before .before .before .before .loop .j} (omega arith))
+add-off c =
+    let at-loop = c .before .before .before .before in
+    let start = at-loop .before in
+    omega (arith, row-inside (start .args .k) (start .args .w) (start .args .l) (at-loop .loop .j) (start .pre .0 .fits) (omega arith))
 
 add-j : tie.Need-add-j Inv-loop μ-loop
 add-j c = search needs
@@ -52,8 +55,10 @@ loop-less c = search needs
 
 loop-again : tie.Need-loop-again Inv-loop μ-loop
 loop-again c =
-    let a = c .before .before .before .before .before .args in
-    let o = c .before .before .before .before .loop in (
+    let at-loop = c .before .before .before .before in
+    let start = at-loop .before in
+    let a = start .args in
+    let o = at-loop .loop in (
       search needs,
       omega (arith, row-end (o .j) (a .k - 1)),
       ⊎-elim
