@@ -9,4 +9,7 @@ mod Shape
 mod Times
 mod Checking
 mod Finding
+mod Scoring
+mod Runs
+mod Kept
 pub mod Unique

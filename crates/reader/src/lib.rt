@@ -5,6 +5,7 @@ ghost use Rattle.setting.specs.Call.{asked};
 ghost use Rattle.reader.specs.Calls.{encoded, checked, finding};
 
 mod refusals;
+mod sifting;
 mod tests;
 mod word;
 mod writing;
