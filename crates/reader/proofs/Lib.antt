@@ -12,4 +12,6 @@ mod Finding
 mod Scoring
 mod Runs
 mod Kept
+mod Listing
+mod Listed
 pub mod Unique
