@@ -1,7 +1,7 @@
 -- Demands 2 and 3 of the calls: an accepted listing or reading gives every message that agrees with the word in at least n−τ places, in order, and tries at most 1 + ℓ·k beginnings.
 use mathlib.Core.Path.{_≡_, refl, sym, ap, _∙_}
 use mathlib.Core.Bool.{Bool, true, false, cond, not, _&&_, _||_}
-use mathlib.Core.List.{List, [], _∷_, _++_, flatten}
+use mathlib.Core.List.{List, [], flatten}
 use Prim.Native.Nat.{ℕ, _+_, _-_, _*_, _≤_}
 use native.Mathlib.Omega.{arith}
 use lib.Dec.{T, eqb, ltb, eqb→eq}
@@ -12,7 +12,7 @@ use Rattle.rules.specs.Field.{ops}
 use Rattle.rules.specs.Code.{triples, zeros, readings}
 use Rattle.rules.specs.Curve.{weighted, through, passes}
 use Rattle.rules.specs.Setting.{Setting, W, ℓ, curve-length, R}
-use Rattle.rules.specs.Refusal.{_if_, lowest, setting-causes, setting-refusal, word-causes, curve-causes, long, under, fits, list-refusal, read-refusal}
+use Rattle.rules.specs.Refusal.{setting-causes, setting-refusal, word-causes, curve-causes, long, under, fits, list-refusal, read-refusal}
 use Rattle.rules.specs.Outcome.{Listing, Reading, over, cleared, used, usable, list-of, tried-of, list-call, read-call, Reads}
 use Rattle.rules.proofs.Tests.{both}
 use Rattle.demands.proofs.Listing.{list-readings}
@@ -20,7 +20,7 @@ use Rattle.search.proofs.Start.{bound}
 use Rattle.setting.specs.Accepted.{Accepted}
 use Rattle.setting.proofs.Accepted.{accepted}
 use Rattle.reader.specs.Causes.{pair-causes, proposed-causes}
-use Rattle.reader.proofs.Lowest.{named, none-first, none-parts}
+use Rattle.reader.proofs.Lowest.{none-first, none-parts}
 use Rattle.reader.proofs.Pair.{Pair, pair, pair-named, proposed, proposed-named}
 use Rattle.reader.proofs.Scoring.{under-at}
 use Rattle.reader.proofs.Checking.{setting-named}
