@@ -5,17 +5,16 @@ use mathlib.Core.List.{List, [], _∷_, _++_}
 use Prim.Native.Nat.{ℕ, _-_, _≤_}
 use native.Mathlib.Omega.{arith}
 use lib.Dec.{T, ltb}
-use lib.ListN.{length, take, drop, replicate, length-replicate}
+use lib.ListN.{length, drop, replicate, length-replicate}
 use lib.Seq.{take-at}
 use borrow.Author.Tests.{ne-eqb, ltb-false}
 use borrow.Rule.Slice.PartMut.{putMid}
 use Rattle.rules.specs.Setting.{Setting, curve-length, R}
-use Rattle.rules.specs.Refusal.{_if_, lowest, setting-causes, setting-refusal, word-causes, find-refusal}
+use Rattle.rules.specs.Refusal.{Cause, _if_, lowest, setting-causes, setting-refusal, word-causes, find-refusal}
 use Rattle.rules.specs.Outcome.{over, cleared, usable, used, find-call, Finds}
 use Rattle.reader.specs.Calls.{finding}
 use Rattle.reader.specs.Causes.{pair-causes}
-use Rattle.reader.proofs.Lowest.{first-refuses, first-accept, none-first, none-parts}
-use Rattle.reader.proofs.Pair.{Pair, pair, pair-named}
+use Rattle.reader.proofs.Lowest.{named, first-refuses, first-accept, none-first, none-parts}
 use Rattle.reader.proofs.Front.{over-front}
 use Rattle.reader.proofs.Checking.{setting-named}
 
@@ -29,9 +28,9 @@ pub cleared-front : (n : ℕ) (work : List ℕ) {front : List ℕ} → front ≡
 unfolding cleared
 cleared-front n work {front} e = over-front n work front (ap length e ∙ length-replicate n 0) ∙ ap (λ new. over new work) e
 
--- two rooms that are not too short, and a pair of points and word
-pub record Granted (p n : ℕ) (points word : List ℕ) (a x b y : ℕ) : Type 0 where
-  pub given : Pair p n points n word
+-- these causes do not apply, and two rooms are not too short
+pub record Granted (bs : List Cause) (a x b y : ℕ) : Type 0 where
+  pub none : lowest bs ≡ 0
   pub first : x ≤ a
   pub second : y ≤ b
 
@@ -40,15 +39,27 @@ neither true c e = absurd (let z : _≡_ {A = ℕ} 0 1 = cc in omega arith)
 neither false c e = (refl, e)
 
 module _ {short : Bool} (a x b y : ℕ) (is : short ≡ ltb a x || ltb b y) where
-  pub granted : (p n : ℕ) (points word : List ℕ) → lowest (pair-causes p n points n word ++ (8 if short) ∷ []) ≡ 0 → Granted p n points word a x b y
-  granted p n points word z =
-      let parts = none-parts (pair-causes p n points n word) ((8 if short) ∷ []) (pair-named p n points n word) z in
+  pub granted : (bs : List Cause) → T (named bs) → lowest (bs ++ (8 if short) ∷ []) ≡ 0 → Granted bs a x b y
+  granted bs t z =
+      let parts = none-parts bs ((8 if short) ∷ []) t z in
       let long = neither (ltb a x) (ltb b y) (sym is ∙ none-first 8 short [] (parts .1) (λ q. omega arith) .0) in
-      record { given = pair p n points n word (parts .0); first = ltb-false a x (long .0); second = ltb-false b y (long .1) }
+      record { none = parts .0; first = ltb-false a x (long .0); second = ltb-false b y (long .1) }
 
   -- .. said of equal needs
   pub short-is : {x′ y′ : ℕ} → x ≡ x′ → y ≡ y′ → short ≡ ltb a x′ || ltb b y′
   short-is f g = rw (← f, ← g) is
+
+-- .. and so of three
+module _ {short : Bool} (a x b y c z : ℕ) (is : short ≡ ltb a x || ltb b y || ltb c z) where
+  pub all-granted : (bs : List Cause) → T (named bs) → lowest (bs ++ (8 if short) ∷ []) ≡ 0 → Granted bs a x b y × (z ≤ c)
+  all-granted bs t n =
+      let parts = none-parts bs ((8 if short) ∷ []) t n in
+      let long = neither (ltb a x || ltb b y) (ltb c z) (sym is ∙ none-first 8 short [] (parts .1) (λ q. omega arith) .0) in
+      let two = neither (ltb a x) (ltb b y) (long .0) in
+      (record { none = parts .0; first = ltb-false a x (two .0); second = ltb-false b y (two .1) }, ltb-false c z (long .1))
+
+  pub all-short-is : {x′ y′ z′ : ℕ} → x ≡ x′ → y ≡ y′ → z ≡ z′ → short ≡ ltb a x′ || ltb b y′ || ltb c z′
+  all-short-is f g h = rw (← f, ← g, ← h) is
 
 module _ (S : Setting) (points word curve work : List ℕ) where
   pub setting-refuses-find : {r : ℕ} → r ≡ setting-refusal S → ¬ (r ≡ 0) → r ≡ find-refusal S points word (length curve) (length work)

@@ -9,4 +9,11 @@ mod Shape
 mod Times
 mod Checking
 mod Finding
+mod Scoring
+mod Runs
+mod Kept
+mod Listing
+mod Listed
+mod Allowed
+pub mod Readings
 pub mod Unique

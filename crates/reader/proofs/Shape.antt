@@ -56,6 +56,17 @@ module _ {S : Setting} {d : Derived} (h : Taken S d) where
   pub slots-fit : (d .l + 1) * ((d .l + 1) * d .w) ≤ d .r
   slots-fit = rw size-is (omega (arith, mul-le-mul-right {m = d .l + 1} {n = ℓ S + S .k + 4} (curve-length S) (omega arith), h .accepted .slots))
 
+  -- .. and so are those of the search
+  pub search-fits : (S .k + 2) * ((d .l + 1) * d .w) ≤ d .r
+  search-fits = rw size-is (omega (arith, mul-le-mul-right {m = S .k + 2} {n = ℓ S + S .k + 4} (curve-length S) (omega arith), h .accepted .slots))
+
+  -- the room for the list
+  pub room-is : d .l * S .k ≡ ℓ S * S .k
+  room-is = rw (h .is-ℓ) refl
+
+  pub list-most : d .l * S .k ≤ 1536
+  list-most = rw (h .is-ℓ) (h .accepted .output-most)
+
   -- what finding leaves may be used
   pub usable-is : (points word Q : List ℕ) → length Q ≡ (d .l + 1) * d .w → T (under (S .p) Q) → T (passes (ops (S .p)) (S .k) (d .w) (d .l) (triples (S .s) points word) Q)
       → T (usable S points word Q)

@@ -28,7 +28,7 @@ module _ {q k w l s : ℕ} {points word : List ℕ} (h : Worded q k w l s points
   pub times-triples : tripled points word (times s (length points)) ≡ triples s points word
   times-triples = ap (tripled points word) (times-are s (length points) (h .few)) ∙ tripled-triples s (length points) points word (h .same)
 
-  times-long : length (times s (length points)) ≡ length points
+  pub times-long : length (times s (length points)) ≡ length points
   times-long = ap length (times-are s (length points) (h .few)) ∙ length-replicate (length points) s
 
   pub times-small : (j : ℕ) → j < length (times s (length points)) → getD (times s (length points)) j 0 ≤ 4

@@ -1,6 +1,6 @@
--- What finding for a word needs, and what it leaves.
+-- What finding and listing for a word need, and what they leave.
 use mathlib.Core.Path.{_≡_}
-use mathlib.Core.List.{List}
+use mathlib.Core.List.{List, flatten}
 use Prim.Native.Nat.{ℕ, _+_, _-_, _*_, _/_, _<_, _≤_}
 use lib.Dec.{T}
 use lib.ListN.{length, replicate}
@@ -8,8 +8,11 @@ use Rattle.rules.specs.Lists.{below, sum}
 use Rattle.rules.specs.Field.{ops}
 use Rattle.rules.specs.Code.{triples}
 use Rattle.rules.specs.Curve.{passes}
+use Rattle.rules.specs.Search.{rows, beginnings, listed}
 use Rattle.rules.specs.Refusal.{under}
+use Rattle.rules.specs.Outcome.{over}
 use Rattle.demands.specs.Shape.{Shaped}
+use Rattle.reader.specs.declared.Outcome.{Outcome}
 
 -- the numbers of an accepted setting, and a word with as many points
 pub record Worded (q k w l s : ℕ) (points word : List ℕ) : Type 0 where
@@ -31,3 +34,34 @@ pub record Passed (q k w l s : ℕ) (points word curve work work′ : List ℕ) 
   pub small : T (under q curve)
   pub passing : T (passes (ops q) k w l (triples s points word) curve)
   pub cleared : work′ ≡ replicate (length work) 0
+
+-- a word of symbols, a curve of symbols that passes for it, and room for the search and for the list
+pub record Listable (q k w l s : ℕ) (points word curve output work : List ℕ) : Type 0 where
+  pub worded : Worded q k w l s points word
+  pub symbols : T (under q word)
+  pub whole : length curve ≡ (l + 1) * w
+  pub small : T (under q curve)
+  pub passing : T (passes (ops q) k w l (triples s points word) curve)
+  pub slots : (k + 2) * ((l + 1) * w) ≤ length work
+  pub list : l * k ≤ 1536
+  pub room : l * k ≤ length output
+
+-- the roots of the curve whose score is at least w
+abbrev pub scoring-roots : ℕ → ℕ → ℕ → ℕ → ℕ → List ℕ → List ℕ → List ℕ → List (List ℕ)
+scoring-roots q k w l s points word curve = listed (ops q) k w (triples s points word) (rows w (l + 1) curve)
+
+-- they are counted and stand at the front of the output; the beginnings are counted, and the room is as clear as it was long
+pub record Listed (q k w l s : ℕ) (points word curve output work output′ work′ : List ℕ) (r : Outcome) : Type 0 where
+  pub refusal : r .refusal ≡ 0
+  pub found : r .found ≡ length (scoring-roots q k w l s points word curve)
+  pub tried : r .tried ≡ beginnings (ops q) k (rows w (l + 1) curve)
+  pub written : output′ ≡ over (flatten (scoring-roots q k w l s points word curve)) output
+  pub cleared : work′ ≡ replicate (length work) 0
+
+-- a word of symbols, and room for finding and for listing
+pub record Readable (q k w l s : ℕ) (points word output curve work : List ℕ) : Type 0 where
+  pub findable : Findable q k w l s points word curve work
+  pub symbols : T (under q word)
+  pub slots : (k + 2) * ((l + 1) * w) ≤ length work
+  pub list : l * k ≤ 1536
+  pub room : l * k ≤ length output

@@ -1,10 +1,11 @@
 // The public calls of document 01. Each tests its refusals in the table's order, and then asks the engine.
 ghost use mathlib.Core.Path.{_≡_};
-ghost use Rattle.rules.specs.Outcome.{encode-call, check-call, Finds};
+ghost use Rattle.rules.specs.Outcome.{encode-call, check-call, list-call, Finds, Reads};
 ghost use Rattle.setting.specs.Call.{asked};
-ghost use Rattle.reader.specs.Calls.{encoded, checked, finding};
+ghost use Rattle.reader.specs.Calls.{encoded, checked, finding, listing, reading};
 
 mod refusals;
+mod sifting;
 mod tests;
 mod word;
 mod writing;
@@ -122,4 +123,87 @@ pub fn find(
         &mut work[0..room],
     );
     empty(0)
+}
+
+// Listing from the proposed curve: every message that is a root of it and agrees with the word in at least n−τ places.
+pub fn list(
+    p: usize,
+    n: usize,
+    k: usize,
+    s: usize,
+    tau: usize,
+    points: &[u16],
+    word: &[u16],
+    curve: &[u16],
+    output: &mut [u16],
+    work: &mut [u16],
+) -> Outcome
+    ensures { λ r. ⌜ listing (r .refusal) (r .found) (r .tried) (now (output .exit)) (now (work .exit)) ≡ list-call (asked p n k s tau) (now (points .entry)) (now (word .entry)) (now (curve .entry)) (now (output .entry)) (now (work .entry)) ⌝ }
+{
+    let d = setting::derive(p, n, k, s, tau);
+    if d.refusal != 0 {
+        return empty(d.refusal);
+    }
+    let size = (d.l + 1) * d.w;
+    let room = d.r;
+    let short = tests::either_short(output.len(), d.l * k, work.len(), room);
+    let number = refusals::of_listing(p, n, points, word, size, curve, short);
+    if number != 0 {
+        return empty(number);
+    }
+    if !word::fits(p as u16, k, d.w, d.l, s as u16, points, word, curve) {
+        return empty(9);
+    }
+    word::list(
+        p as u16,
+        k,
+        d.w,
+        d.l,
+        s as u16,
+        points,
+        word,
+        curve,
+        output,
+        &mut work[0..room],
+    )
+}
+
+// Reading: finding, then listing. The curve buffer's front holds the curve used.
+pub fn read(
+    p: usize,
+    n: usize,
+    k: usize,
+    s: usize,
+    tau: usize,
+    points: &[u16],
+    word: &[u16],
+    output: &mut [u16],
+    curve: &mut [u16],
+    work: &mut [u16],
+) -> Outcome
+    ensures { λ r. ⌜ Reads (asked p n k s tau) (now (points .entry)) (now (word .entry)) (now (output .entry)) (now (curve .entry)) (now (work .entry)) (reading (r .refusal) (r .found) (r .tried) (now (output .exit)) (now (curve .exit)) (now (work .exit))) ⌝ }
+{
+    let d = setting::derive(p, n, k, s, tau);
+    if d.refusal != 0 {
+        return empty(d.refusal);
+    }
+    let size = (d.l + 1) * d.w;
+    let room = d.r;
+    let short = tests::any_short(output.len(), d.l * k, curve.len(), size, work.len(), room);
+    let number = refusals::of_word(p, n, points, word, short);
+    if number != 0 {
+        return empty(number);
+    }
+    word::read(
+        p as u16,
+        k,
+        d.w,
+        d.l,
+        s as u16,
+        points,
+        word,
+        output,
+        &mut curve[0..size],
+        &mut work[0..room],
+    )
 }

@@ -64,6 +64,28 @@ pub fn of_proposed(
     0
 }
 
+// 5 to 8 for these, where the rooms are too short or not.
+pub fn of_listing(
+    p: usize,
+    n: usize,
+    points: &[u16],
+    word: &[u16],
+    size: usize,
+    curve: &[u16],
+    short: bool,
+) -> u16
+    ensures { λ r. ⌜ r ≡ lowest (proposed-causes p n (now (points .entry)) (now (word .entry)) size (now (curve .entry)) ++ (8 if short) ∷ []) ⌝ }
+{
+    let number = of_proposed(p, n, points, word, size, curve);
+    if number != 0 {
+        return number;
+    }
+    if short {
+        return 8;
+    }
+    0
+}
+
 // The refusal number of the encode call.
 pub fn of_encode(
     p: usize,

@@ -25,6 +25,16 @@ pub fn either_short(a: usize, x: usize, b: usize, y: usize) -> bool
     b < y
 }
 
+// .. of three.
+pub fn any_short(a: usize, x: usize, b: usize, y: usize, c: usize, z: usize) -> bool
+    ensures { λ r. ⌜ r ≡ ltb a x || ltb b y || ltb c z ⌝ }
+{
+    if either_short(a, x, b, y) {
+        return true;
+    }
+    c < z
+}
+
 // Whether each of these and of those is below p.
 pub fn both_below(p: usize, these: &[u16], those: &[u16]) -> bool
     ensures { λ r. ⌜ r ≡ under p (now (these .entry)) && under p (now (those .entry)) ⌝ }

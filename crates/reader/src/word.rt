@@ -7,8 +7,11 @@ ghost use Rattle.rules.specs.Field.{ops};
 ghost use Rattle.rules.specs.Code.{triples};
 ghost use Rattle.rules.specs.Curve.{passes};
 ghost use Rattle.rules.specs.Refusal.{under};
-ghost use Rattle.reader.specs.Word.{Worded, Findable, Passed};
+ghost use Rattle.reader.specs.Word.{Worded, Findable, Passed, Listable, Listed, Readable};
+use crate::Outcome;
+use crate::sifting::sift;
 use field::runs::clear;
+use search::search;
 
 // Whether the curve passes for the word.
 pub fn fits(
@@ -48,4 +51,63 @@ pub fn find(
     let n = points.len();
     finder::find(q, k, w, l, points, word, &times[0..n], curve, work);
     clear(work);
+}
+
+// Writes the roots of the curve that agree with enough of the word, in order, and clears the room that they were searched in. The roots wait in an array: behind the list nothing is written.
+pub fn list(
+    q: u16,
+    k: usize,
+    w: usize,
+    l: usize,
+    s: u16,
+    points: &[u16],
+    word: &[u16],
+    curve: &[u16],
+    output: &mut [u16],
+    work: &mut [u16],
+) -> Outcome
+    requires { ⌜ Listable q k w l s (now points) (now word) (now curve) (now output) (now work) ⌝ }
+    ensures { λ r. ⌜ Listed q k w l s (now (points .entry)) (now (word .entry)) (now (curve .entry)) (now (output .entry)) (now (work .entry)) (now (output .exit)) (now (work .exit)) r ⌝ }
+{
+    let times = [s; 64];
+    let n = points.len();
+    let mut roots = [0u16; 1536];
+    let tally = search(q, k, w, l, curve, work, &mut roots);
+    let found = sift(
+        q,
+        k,
+        w,
+        tally.found,
+        &roots,
+        points,
+        word,
+        &times[0..n],
+        output,
+    );
+    clear(work);
+    Outcome {
+        refusal: 0,
+        found,
+        tried: tally.tried,
+    }
+}
+
+// Finding, then listing.
+pub fn read(
+    q: u16,
+    k: usize,
+    w: usize,
+    l: usize,
+    s: u16,
+    points: &[u16],
+    word: &[u16],
+    output: &mut [u16],
+    curve: &mut [u16],
+    work: &mut [u16],
+) -> Outcome
+    requires { ⌜ Readable q k w l s (now points) (now word) (now output) (now curve) (now work) ⌝ }
+    ensures { λ r. ⌜ Passed q k w l s (now (points .entry)) (now (word .entry)) (now (curve .exit)) (now (work .entry)) (now (work .exit)) × Listed q k w l s (now (points .entry)) (now (word .entry)) (now (curve .exit)) (now (output .entry)) (now (work .entry)) (now (output .exit)) (now (work .exit)) r ⌝ }
+{
+    find(q, k, w, l, s, points, word, curve, work);
+    list(q, k, w, l, s, points, word, curve, output, work)
 }

@@ -5,6 +5,7 @@ use lib.ListN.{length, replicate}
 use Rattle.prime.proofs.Below.{modulus-small}
 use Rattle.setting.specs.Call.{asked}
 use Rattle.setting.proofs.Taken.{refusal-is, taken}
+use Rattle.reader.proofs.Pair.{pair, pair-named}
 use Rattle.reader.proofs.Front.{length-front}
 use Rattle.reader.proofs.Shape.{worded, size-is, enough, slots-fit, usable-is}
 use Rattle.reader.proofs.Finding.{setting-refuses-find, find-rest, find-refused, find-accepted, short-is, granted}
@@ -89,7 +90,7 @@ part-find-end c =
     let x = c .before .before .before .before .before .before .before .before .before .before .before .before .args in
     let S = asked (x .p) (x .n) (x .k) (x .s) (x .tau) in
     let d = c .before .before .before .before .before .before .before .derive .result in
-    let g = granted (length (x .curve .now)) ((d .l + 1) * d .w) (length (x .work .now)) (d .r) (c .before .before .either-short .ensures) (x .p) (x .n) (x .points .now) (x .word .now) (sym (c .before .of-word .ensures) ∙ c .if2 .left) in
+    let g = granted (length (x .curve .now)) ((d .l + 1) * d .w) (length (x .work .now)) (d .r) (c .before .before .either-short .ensures) _ (pair-named (x .p) (x .n) (x .points .now) (x .n) (x .word .now)) (sym (c .before .of-word .ensures) ∙ c .if2 .left) in
     omega (arith, g .first)
 
 sub-find-2 : tie.Need-sub-find-2
@@ -103,7 +104,7 @@ part-find-end-2 c =
     let x = c .before .before .before .before .before .before .before .before .before .before .before .before .before .args in
     let S = asked (x .p) (x .n) (x .k) (x .s) (x .tau) in
     let d = c .before .before .before .before .before .before .before .before .derive .result in
-    let g = granted (length (x .curve .now)) ((d .l + 1) * d .w) (length (x .work .now)) (d .r) (c .before .before .before .either-short .ensures) (x .p) (x .n) (x .points .now) (x .word .now) (sym (c .before .before .of-word .ensures) ∙ c .before .if2 .left) in
+    let g = granted (length (x .curve .now)) ((d .l + 1) * d .w) (length (x .work .now)) (d .r) (c .before .before .before .either-short .ensures) _ (pair-named (x .p) (x .n) (x .points .now) (x .n) (x .word .now)) (sym (c .before .before .of-word .ensures) ∙ c .before .if2 .left) in
     omega (arith, g .second)
 
 find-requires : tie.Need-find-requires
@@ -112,12 +113,12 @@ find-requires c κs =
     let S = asked (x .p) (x .n) (x .k) (x .s) (x .tau) in
     let d = c .before .before .before .before .before .before .before .before .before .derive .result in
     let h = taken S d (c .before .before .before .before .before .before .before .before .before .derive .ensures) (c .before .before .before .before .before .before .before .if1 .left) in
-    let g = granted (length (x .curve .now)) ((d .l + 1) * d .w) (length (x .work .now)) (d .r) (c .before .before .before .before .either-short .ensures) (x .p) (x .n) (x .points .now) (x .word .now) (sym (c .before .before .before .of-word .ensures) ∙ c .before .before .if2 .left) in
+    let g = granted (length (x .curve .now)) ((d .l + 1) * d .w) (length (x .work .now)) (d .r) (c .before .before .before .before .either-short .ensures) _ (pair-named (x .p) (x .n) (x .points .now) (x .n) (x .word .now)) (sym (c .before .before .before .of-word .ensures) ∙ c .before .before .if2 .left) in
     record {
-      worded = worded h (g .given);
+      worded = worded h (pair _ _ _ _ _ (g .none));
       whole = sym (length-front _ _ (g .first));
       slots = omega (arith, length-front (d .r) (x .work .now) (g .second), slots-fit h);
-      enough = enough h _ (g .given .points-long);
+      enough = enough h _ (pair _ _ _ _ _ (g .none) .points-long);
     }
 
 empty-requires-3 : tie.Need-empty-requires-3
@@ -136,7 +137,7 @@ returns-3 c =
     let d = c .before .before .before .before .before .before .before .before .before .before .before .before .before .before .before .derive .result in
     let h = taken S d (c .before .before .before .before .before .before .before .before .before .before .before .before .before .before .before .derive .ensures) (c .before .before .before .before .before .before .before .before .before .before .before .before .before .if1 .left) in
     let none = sym (refusal-is S d (c .before .before .before .before .before .before .before .before .before .before .before .before .before .before .before .derive .ensures)) ∙ c .before .before .before .before .before .before .before .before .before .before .before .before .before .if1 .left in
-    let g = granted (length (x .curve .now)) ((d .l + 1) * d .w) (length (x .work .now)) (d .r) (c .before .before .before .before .before .before .before .before .before .before .either-short .ensures) (x .p) (x .n) (x .points .now) (x .word .now) (sym (c .before .before .before .before .before .before .before .before .before .of-word .ensures) ∙ c .before .before .before .before .before .before .before .before .if2 .left) in
+    let g = granted (length (x .curve .now)) ((d .l + 1) * d .w) (length (x .work .now)) (d .r) (c .before .before .before .before .before .before .before .before .before .before .either-short .ensures) _ (pair-named (x .p) (x .n) (x .points .now) (x .n) (x .word .now)) (sym (c .before .before .before .before .before .before .before .before .before .of-word .ensures) ∙ c .before .before .before .before .before .before .before .before .if2 .left) in
     let e = c .empty3 .ensures in
     let f = c .before .before .before .before .before .find .ensures in
     rw (e .0, e .1, e .2) (find-accepted S (x .points .now) (x .word .now) (x .curve .now) (x .work .now) (sym (c .before .before .before .before .before .before .before .before .if2 .left) ∙ c .before .before .before .before .before .before .before .before .before .of-word .ensures ∙ find-rest S (x .points .now) (x .word .now) (x .curve .now) (x .work .now) none (short-is (length (x .curve .now)) ((d .l + 1) * d .w) (length (x .work .now)) (d .r) (c .before .before .before .before .before .before .before .before .before .before .either-short .ensures) (size-is h) (h .is-R))) (size-is h) (h .is-R) _ (f .whole) (usable-is h _ _ _ (f .whole) (f .small) (f .passing))
