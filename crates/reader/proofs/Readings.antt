@@ -6,7 +6,8 @@ use Prim.Native.Nat.{ℕ, _+_, _-_, _*_, _≤_}
 use native.Mathlib.Omega.{arith}
 use lib.Dec.{T, eqb, ltb, eqb→eq}
 use lib.ListN.{length}
-use borrow.Author.Tests.{eqb-true, not-false}
+use native.Mathlib.Decide.{ℕ-discrete}
+use borrow.Author.Tests.{eqb-true, ne-eqb, not-false}
 use Rattle.rules.specs.Lists.{all}
 use Rattle.rules.specs.Field.{ops}
 use Rattle.rules.specs.Code.{triples, zeros, readings}
@@ -146,3 +147,24 @@ module _ (S : Setting) (points word output curve work : List ℕ) where
         work = cleared (R S) work;
       }
       accepted-is = unfold read-call in rw none refl
+
+  refused-is : ¬ (refusal ≡ 0) → (Q : List ℕ) → read-call S points word output curve work Q ≡ record { refusal = refusal; found = 0; tried = 0; output = output; curve = curve; work = work }
+  unfolding read-call
+  refused-is n Q = rw (ne-eqb refusal 0 n) refl
+
+  -- Whatever the curves, two readings that the contract allows have the same refusal, list length and output.
+  pub read-list-unique : (o o′ : Reading) → Reads S points word output curve work o → Reads S points word output curve work o′ → (o .refusal ≡ o′ .refusal) × (o .found ≡ o′ .found) × (o .output ≡ o′ .output)
+  read-list-unique o o′ h h′ = go (ℕ-discrete refusal 0)
+    where
+      is : (o : Reading) → Reads S points word output curve work o → o .refusal ≡ refusal
+      is o h = ap (λ (o : Reading). o .refusal) (h .rest) ∙ read-number (used S (o .curve))
+
+      go : Dec (refusal ≡ 0) → (o .refusal ≡ o′ .refusal) × (o .found ≡ o′ .found) × (o .output ≡ o′ .output)
+      go (yes z) =
+          let a = read-reads o h (is o h ∙ z) in
+          let b = read-reads o′ h′ (is o′ h′ ∙ z) in
+          (is o h ∙ sym (is o′ h′), a .list ∙ sym (b .list), a .written ∙ sym (b .written))
+      go (no n) =
+          let e = h .rest ∙ refused-is n (used S (o .curve)) in
+          let e′ = h′ .rest ∙ refused-is n (used S (o′ .curve)) in
+          (is o h ∙ sym (is o′ h′), ap (λ (o : Reading). o .found) (e ∙ sym e′), ap (λ (o : Reading). o .output) (e ∙ sym e′))
