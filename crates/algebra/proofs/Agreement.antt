@@ -1,5 +1,5 @@
 -- Document 01's word: agreement in m places is a score of s·m over the triples with multiplicity s, and distinct points give triples that differ.
-use mathlib.Core.Path.{_≡_, refl, sym, _∙_, ap, ap₂, fun-ext}
+use mathlib.Core.Path.{_≡_, sym, _∙_, ap, ap₂, fun-ext}
 use mathlib.Core.Bool.{Bool, true, false, cond, not}
 use mathlib.Core.List.{List, [], _∷_, zipWith}
 use Prim.Native.Nat.{ℕ, _+_, _*_, _<_}
@@ -10,7 +10,7 @@ use Rattle.rules.specs.Field.{Ops}
 use Rattle.rules.specs.Laws.{Laws}
 use Rattle.rules.specs.Code.{triples, meets, eval, score, sifted, scoring, readings}
 use Rattle.rules.specs.Curve.{passes}
-use Rattle.rules.specs.Search.{rows, roots, listed}
+use Rattle.rules.specs.Search.{rows, listed}
 use Rattle.rules.proofs.Tests.{both, same-test}
 use Rattle.algebra.specs.Points.{Apart, Differ}
 use Rattle.algebra.proofs.Ring.{same-if}

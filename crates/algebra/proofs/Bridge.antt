@@ -1,17 +1,16 @@
 -- Each definition of rules commutes with a map between two instances that keeps the operations: one lemma for each.
 use mathlib.Core.Path.{_≡_, refl, sym, _∙_, ap, ap₂, fun-ext}
-use mathlib.Core.Bool.{Bool, true, false, cond, not, _&&_, _||_}
+use mathlib.Core.Bool.{not, _&&_}
 use mathlib.Core.List.{List, [], _∷_, map, flatMap, zipWith}
 use Prim.Native.Nat.{ℕ, zero, suc, _+_, _-_, _*_}
-use lib.Dec.{leb, ltb}
 use lib.ListN.{getD, List·getD-map}
-use Rattle.rules.specs.Lists.{below, all, keep, sum, distinct}
+use Rattle.rules.specs.Lists.{all, keep, distinct}
 use Rattle.rules.specs.Field.{Ops}
 use Rattle.rules.specs.Code.{Triple, triples, zeros, eval, encode, meets, score, messages, sifted, scoring, readings}
-use Rattle.rules.specs.Curve.{binomial, power, total, coefficient, weighted, hasse, through, passes}
-use Rattle.rules.specs.Search.{rows, merge, width, rest, first, firsts, strip, stripped, scale, step, follows, alive, beginnings, product, along, roots, listed}
+use Rattle.rules.specs.Curve.{power, total, coefficient, weighted, hasse, through, passes}
+use Rattle.rules.specs.Search.{merge, rest, first, firsts, strip, stripped, scale, step, follows, alive, beginnings, product, along, roots, listed}
 use Rattle.algebra.specs.Hom.{Hom, move}
-use Rattle.algebra.proofs.Lists.{all-map, sum-map, map-append, map-cond, map-keep, map-rows, map-merge, map-rest, map-width, map-square, map-flatMap}
+use Rattle.algebra.proofs.Lists.{all-map, sum-map, map-cond, map-keep, map-merge, map-rest, map-width, map-square, map-flatMap}
 
 pub triples-hom : {A B : Type 0} (φ : A → B) (s : ℕ) (points word : List A) → map (move φ) (triples s points word) ≡ triples s (map φ points) (map φ word)
 unfolding triples zipWith

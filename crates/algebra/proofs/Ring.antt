@@ -1,6 +1,6 @@
 -- What follows from a field's laws: the ring laws that every other file of the crate sorts its terms with.
 use mathlib.Core.Path.{_≡_, sym, _∙_, ap, ap₂, subst}
-use mathlib.Core.Bool.{Bool, true, false, cond}
+use mathlib.Core.Bool.{Bool, true, false}
 use Prim.Native.Nat.{ℕ, zero, suc, _+_}
 use native.Mathlib.Nat.{zero-add, suc-add}
 use lib.Dec.{T}

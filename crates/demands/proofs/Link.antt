@@ -1,6 +1,6 @@
 -- The numbers of a slice and the elements of the field: elt, which reduces, and value keep the operations, so every definition crosses.
 use mathlib.Core.Path.{_≡_, refl, sym, _∙_, ap, ap₂}
-use mathlib.Core.Bool.{Bool, not, _&&_}
+use mathlib.Core.Bool.{not, _&&_}
 use mathlib.Core.List.{List, [], _∷_, map}
 use Prim.Native.Nat.{ℕ, zero, suc, _+_, _%_, _≤_, _<_, Fin}
 use native.Mathlib.Nat.{mod-eq-of-lt, zero-mod}

@@ -29,7 +29,7 @@ use Rattle.rules.specs.Search.{
   listed,
 }
 use Rattle.rules.specs.Refusal.{lowest, long, under, field-refusal, encode-refusal, setting-causes, setting-refusal, word-causes, curve-causes, fits, check-refusal, read-refusal}
-use Rattle.rules.specs.Outcome.{Answer, answer, inverse-call, Derived, setting-call, Encoded, encode-call, over, Checked, check-call, tried-of, list-of}
+use Rattle.rules.specs.Outcome.{answer, inverse-call, setting-call, encode-call, over, Checked, check-call, tried-of, list-of}
 
 -- "Seven" with the modulus, s and τ left open
 abbrev seven : ℕ → ℕ → ℕ → Setting

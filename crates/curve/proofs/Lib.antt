@@ -1,0 +1,5 @@
+pub mod Tests
+pub mod Weights
+pub mod Pairing
+pub mod Check
+pub mod Triples

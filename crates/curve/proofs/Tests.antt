@@ -1,0 +1,128 @@
+-- The tests of the check, place by place: what a loop has seen so far decides them.
+use mathlib.Core.Path.{_≡_, refl, sym, _∙_, subst, ap, ap₂}
+use mathlib.Core.Bool.{Bool, true, false, not, _&&_, _||_}
+use mathlib.Core.List.{List, [], _∷_}
+use Prim.Native.Nat.{ℕ, zero, suc, _+_, _-_, _*_, _<_, _≤_}
+use native.Mathlib.Nat.{mod-eq-of-lt, zero-mod}
+use native.Mathlib.Omega.{arith}
+use lib.Dec.{T, not-T, eqb, ltb, eqb→eq, ltb→lt, nltb→le}
+use lib.ListN.{length, getD}
+use borrow.Rule.Slice.PartMut.{midOf}
+use Rattle.rules.specs.Lists.{below, all}
+use Rattle.rules.specs.Field.{ops, alike}
+use Rattle.rules.specs.Code.{zeros}
+use Rattle.rules.specs.Curve.{coefficient, weighted}
+use Rattle.rules.specs.Refusal.{under}
+use Rattle.rules.proofs.Tests.{both, and, below-at, below-of, or-else, same-test}
+use Rattle.buffers.proofs.Part.{len-mid, at-mid}
+use Rattle.curve.specs.Check.{blank}
+
+-- the answer that a loop gives at its end, and where it stops
+pub test-true : (b : Bool) → T b → true ≡ b
+test-true b t = same-test true b (λ s. t) (λ s. tt)
+
+pub test-false : (b : Bool) → ¬ (T b) → false ≡ b
+test-false b n = same-test false b (λ s. absurd s) (λ s. absurd (n s))
+
+-- what a test says that is asked with a `not` before it
+pub said-yes : (r b : Bool) → not r ≡ false → r ≡ b → T b
+said-yes true b e f = subst T f tt
+said-yes false b e f = absurd (subst T e tt)
+
+pub said-no : (r b : Bool) → not r ≡ true → r ≡ b → ¬ (T b)
+said-no true b e f t = subst T (sym e) tt
+said-no false b e f t = subst T (sym f) t
+
+pub zero-test : {a : ℕ} → a ≡ 0 → T (eqb a 0)
+zero-test e = rw e tt
+
+module _ (test : ℕ → Bool) (n : ℕ) where
+  pub below-true : ((i : ℕ) → i < n → T (test i)) → true ≡ all test (below n)
+  below-true h = test-true (all test (below n)) (below-of test n h)
+
+  pub below-false : (i : ℕ) → i < n → ¬ (T (test i)) → false ≡ all test (below n)
+  below-false i l h = test-false (all test (below n)) (λ t. h (below-at test n i t l))
+
+-- tests that agree at each number below n
+pub below-same : (f g : ℕ → Bool) (n : ℕ) → ((i : ℕ) → i < n → f i ≡ g i) → all f (below n) ≡ all g (below n)
+below-same f g n h =
+    same-test (all f (below n)) (all g (below n)) (λ t. below-of g n (λ i l. subst T (h i l) (below-at f n i t l)))
+    (λ t. below-of f n (λ i l. subst T (sym (h i l)) (below-at g n i t l)))
+
+blank-of : (run : List ℕ) → ((i : ℕ) → i < length run → getD run i 0 ≡ 0) → T (blank run)
+unfolding blank all
+blank-of [] h = tt
+blank-of (c ∷ run) h = and (eqb c 0) _ (zero-test (h 0 (omega arith))) (blank-of run (λ i l. h (suc i) (omega arith)))
+
+blank-at : (run : List ℕ) → T (blank run) → (i : ℕ) → getD run i 0 ≡ 0
+unfolding blank all
+blank-at [] t i = refl
+blank-at (c ∷ run) t zero = eqb→eq c 0 (both (eqb c 0) _ t .0)
+blank-at (c ∷ run) t (suc i) = blank-at run (both (eqb c 0) _ t .1) i
+
+pub blank-true : (run : List ℕ) → ((i : ℕ) → i < length run → getD run i 0 ≡ 0) → true ≡ blank run
+blank-true run h = test-true (blank run) (blank-of run h)
+
+pub blank-false : (run : List ℕ) (i : ℕ) → ¬ (getD run i 0 ≡ 0) → false ≡ blank run
+blank-false run i n = test-false (blank run) (λ t. n (blank-at run t i))
+
+-- Numbers below q stand for zero only where they are 0.
+
+pub alike-small : (q a : ℕ) → a < q → alike q a 0 ≡ eqb a 0
+unfolding alike
+alike-small q a h = ap₂ eqb (mod-eq-of-lt h) (zero-mod q)
+
+pub zeros-blank : (q : ℕ) (c : List ℕ) → T (under q c) → zeros (ops q) c ≡ blank c
+unfolding zeros blank under all
+zeros-blank q [] u = refl
+zeros-blank q (a ∷ c) u =
+    let r = both (ltb a q) _ u in
+    ap₂ _&&_ (alike-small q a (ltb→lt a q (r .0))) (zeros-blank q c (r .1))
+
+alike-at : (q : ℕ) (c : List ℕ) (i : ℕ) → T (under q c) → alike q (getD c i 0) 0 ≡ eqb (getD c i 0) 0
+unfolding under all
+alike-at q [] i u = unfold alike in ap₂ eqb (zero-mod q) (zero-mod q)
+alike-at q (a ∷ c) zero u = alike-small q a (ltb→lt a q (both (ltb a q) _ u .0))
+alike-at q (a ∷ c) (suc i) u = alike-at q c i (both (ltb a q) _ u .1)
+
+-- the first n rows hold nothing outside the space
+abbrev pub Clear : ℕ → ℕ → ℕ → List ℕ → Type 0
+Clear k w n c = (t : ℕ) → t < n → (i : ℕ) → i < w → w ≤ i + t * (k - 1) → getD c (t * w + i) 0 ≡ 0
+
+module _ (q k w l : ℕ) (c : List ℕ) (u : T (under q c)) where
+  weighted-of : Clear k w (l + 1) c → T (weighted (ops q) k w l c)
+  unfolding weighted coefficient
+  weighted-of h = below-of _ (l + 1) (λ t m. below-of _ w (λ i n.
+      let a = ltb (i + t * (k - 1)) w in
+      unless a (alike q (getD c (t * w + i) 0) 0) (λ f. subst T (sym (alike-at q c (t * w + i) u)) (zero-test (h t m i n (nltb→le _ _ (not-T a f)))))))
+    where
+      unless : (a b : Bool) → (¬ (T a) → T b) → T (a || b)
+      unless true b f = tt
+      unless false b f = f (λ t. absurd t)
+
+  weighted-clear : T (weighted (ops q) k w l c) → Clear k w (l + 1) c
+  unfolding weighted coefficient
+  weighted-clear s t m i n g = eqb→eq _ 0 (subst T (alike-at q c (t * w + i) u)
+      (or-else (ltb (i + t * (k - 1)) w) _ (below-at _ w i (below-at _ (l + 1) t s m) n) (λ h. let f : i + t * (k - 1) < w = ltb→lt _ _ h in omega arith)))
+
+  pub weighted-true : Clear k w (l + 1) c → true ≡ weighted (ops q) k w l c
+  weighted-true h = test-true (weighted (ops q) k w l c) (weighted-of h)
+
+  pub weighted-false : ¬ (Clear k w (l + 1) c) → false ≡ weighted (ops q) k w l c
+  weighted-false h = test-false (weighted (ops q) k w l c) (λ s. h (weighted-clear s))
+
+-- what lies behind the part of row t that can be nonzero
+module _ (k w t at off : ℕ) (c : List ℕ) (ea : at ≡ t * w) (eo : off ≡ t * (k - 1)) (f : off ≤ w) (g : at + w ≤ length c) where
+  abbrev behind : List ℕ
+  behind = midOf (at + (w - off)) (at + w - (at + (w - off))) c
+
+  pub behind-clear : T (blank behind) → (i : ℕ) → i < w → w ≤ i + t * (k - 1) → getD c (t * w + i) 0 ≡ 0
+  behind-clear b i l h =
+      let e : t * w + i ≡ at + (w - off) + (i - (w - off)) = omega arith in
+      ap (λ (j : ℕ). getD c j 0) e ∙ sym (at-mid (at + (w - off)) (at + w - (at + (w - off))) c (omega arith) (i - (w - off)) (omega arith)) ∙ blank-at behind b (i - (w - off))
+
+  pub clear-behind : ((i : ℕ) → i < w → w ≤ i + t * (k - 1) → getD c (t * w + i) 0 ≡ 0) → T (blank behind)
+  clear-behind h = blank-of behind (λ j l.
+      let n : length behind ≡ at + w - (at + (w - off)) = len-mid (at + (w - off)) (at + w - (at + (w - off))) c (omega arith) in
+      let e : at + (w - off) + j ≡ t * w + (w - off + j) = omega arith in
+      at-mid (at + (w - off)) (at + w - (at + (w - off))) c (omega arith) j (omega arith) ∙ ap (λ (i : ℕ). getD c i 0) e ∙ h (w - off + j) (omega arith) (omega arith))

@@ -1,0 +1,4 @@
+pub mod Weights
+pub mod Value
+pub mod Triples
+pub mod Check

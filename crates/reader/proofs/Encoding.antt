@@ -1,0 +1,64 @@
+-- When encode refuses and with which number, what holds where it does not, and what it then answers.
+use mathlib.Core.Path.{_≡_, refl, sym, ap, _∙_}
+use mathlib.Core.Bool.{true, false, not}
+use mathlib.Core.List.{List, [], _∷_, _++_}
+use Prim.Native.Nat.{ℕ, _-_, _≤_}
+use native.Mathlib.Omega.{arith}
+use lib.Dec.{T, ltb, eqb}
+use lib.ListN.{length}
+use borrow.Author.Tests.{ltb-false, ne-eqb, not-false}
+use borrow.Rule.Slice.PartMut.{putMid}
+use Rattle.rules.specs.Field.{ops, modulus}
+use Rattle.rules.specs.Setting.{code-ranges}
+use Rattle.rules.specs.Code.{encode}
+use Rattle.rules.specs.Refusal.{_if_, lowest, encode-refusal}
+use Rattle.rules.specs.Outcome.{encode-call}
+use Rattle.reader.specs.Calls.{encoded}
+use Rattle.reader.specs.Causes.{pair-causes}
+use Rattle.reader.proofs.Lowest.{none-first, none-parts}
+use Rattle.reader.proofs.Pair.{Pair, pair, pair-named}
+use Rattle.reader.proofs.Front.{over-front}
+use Rattle.reader.proofs.Patch.{length-patch}
+
+module _ (p n k : ℕ) (points message : List ℕ) (room : ℕ) where
+  pub encode-refuses-1 : modulus p ≡ false → 1 ≡ encode-refusal p n k points message room
+  unfolding encode-refusal lowest
+  encode-refuses-1 a = simp a
+
+  pub encode-refuses-2 : modulus p ≡ true → code-ranges n k ≡ false → 2 ≡ encode-refusal p n k points message room
+  unfolding encode-refusal lowest
+  encode-refuses-2 a b = simp (a, b)
+
+  -- the causes behind the first two
+  pub encode-rest : modulus p ≡ true → code-ranges n k ≡ true → lowest (pair-causes p n points k message ++ (8 if ltb room n) ∷ []) ≡ encode-refusal p n k points message room
+  unfolding encode-refusal lowest pair-causes
+  encode-rest a b = simp (a, b)
+
+  -- what an accepted call may assume
+  pub record Encodes : Type 0 where
+    pub field : T (modulus p)
+    pub given : Pair p n points k message
+    pub fits : n ≤ room
+
+  pub encodes : encode-refusal p n k points message room ≡ 0 → Encodes
+  unfolding encode-refusal pair-causes
+  encodes z =
+      let first = none-first 1 (not (modulus p)) _ z (λ e. omega arith) in
+      let second = none-first 2 (not (code-ranges n k)) _ (first .1) (λ e. omega arith) in
+      let parts = none-parts (pair-causes p n points k message) ((8 if ltb room n) ∷ []) (pair-named p n points k message) (second .1) in
+      let last = none-first 8 (ltb room n) [] (parts .1) (λ e. omega arith) in
+      record {
+        field = rw (not-false (modulus p) (first .0)) tt;
+        given = pair p n points k message (parts .0);
+        fits = ltb-false room n (last .0);
+      }
+
+module _ (p n k : ℕ) (points message output : List ℕ) {number : ℕ} (is : number ≡ encode-refusal p n k points message (length output)) where
+  pub encode-refused : ¬ (number ≡ 0) → encoded number output ≡ encode-call p n k points message output
+  unfolding encode-call
+  encode-refused h = rw (← is) (simp (ne-eqb number 0 h) refl)
+
+  pub encode-accepted : number ≡ 0 → {patch : List ℕ} → patch ≡ encode (ops p) points message → length points ≡ n
+      → encoded 0 (putMid 0 (n - 0) output patch) ≡ encode-call p n k points message output
+  unfolding encode-call
+  encode-accepted h e l = rw (← is, h, e) (ap (encoded 0) (over-front n output _ (length-patch p points message ∙ l)))

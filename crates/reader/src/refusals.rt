@@ -1,0 +1,48 @@
+// The refusal numbers of the calls: the lowest that applies, and 0 where none does.
+ghost use mathlib.Core.Path.{_≡_};
+ghost use Rattle.rules.specs.Refusal.{lowest, encode-refusal};
+ghost use Rattle.reader.specs.Causes.{pair-causes};
+use crate::tests;
+
+// 5 to 7 for n points and m symbols.
+pub fn of_pair(p: usize, n: usize, points: &[u16], m: usize, symbols: &[u16]) -> u16
+    ensures { λ r. ⌜ r ≡ lowest (pair-causes p n (now (points .entry)) m (now (symbols .entry))) ⌝ }
+{
+    if !tests::both_long(n, points, m, symbols) {
+        return 5;
+    }
+    if !tests::both_below(p, points, symbols) {
+        return 6;
+    }
+    if !tests::all_distinct(points) {
+        return 7;
+    }
+    0
+}
+
+// The refusal number of the encode call.
+pub fn of_encode(
+    p: usize,
+    n: usize,
+    k: usize,
+    points: &[u16],
+    message: &[u16],
+    output: usize,
+) -> u16
+    ensures { λ r. ⌜ r ≡ encode-refusal p n k (now (points .entry)) (now (message .entry)) output ⌝ }
+{
+    if !field::is_modulus(p) {
+        return 1;
+    }
+    if !setting::code_in_ranges(n, k) {
+        return 2;
+    }
+    let number = of_pair(p, n, points, k, message);
+    if number != 0 {
+        return number;
+    }
+    if output < n {
+        return 8;
+    }
+    0
+}

@@ -1,0 +1,76 @@
+// What the calls test of the slices that they take.
+ghost use mathlib.Core.Path.{_≡_};
+ghost use mathlib.Core.Bool.{not, _&&_};
+ghost use lib.Dec.{eqb};
+ghost use Rattle.rules.specs.Lists.{all, distinct};
+ghost use Rattle.rules.specs.Refusal.{long, under};
+
+// Whether these are n and those are m.
+pub fn both_long(n: usize, these: &[u16], m: usize, those: &[u16]) -> bool
+    ensures { λ r. ⌜ r ≡ long n (now (these .entry)) && long m (now (those .entry)) ⌝ }
+{
+    if these.len() != n {
+        return false;
+    }
+    those.len() == m
+}
+
+// Whether each of these and of those is below p.
+pub fn both_below(p: usize, these: &[u16], those: &[u16]) -> bool
+    ensures { λ r. ⌜ r ≡ under p (now (these .entry)) && under p (now (those .entry)) ⌝ }
+{
+    if !all_below(p, these) {
+        return false;
+    }
+    all_below(p, those)
+}
+
+// Whether each is below p.
+pub fn all_below(p: usize, symbols: &[u16]) -> bool
+    ensures { λ r. ⌜ r ≡ under p (now (symbols .entry)) ⌝ }
+{
+    let mut i: usize = 0;
+    while i < symbols.len() {
+        if p <= wide(symbols[i]) {
+            return false;
+        }
+        i += 1;
+    }
+    true
+}
+
+// A symbol as a number that can be compared with p.
+fn wide(x: u16) -> usize
+    ensures { λ r. ⌜ r ≡ x ⌝ }
+{
+    x as usize
+}
+
+// Whether x is none of these.
+fn is_new(x: u16, others: &[u16]) -> bool
+    ensures { λ r. ⌜ r ≡ all (λ y. not (eqb x y)) (now (others .entry)) ⌝ }
+{
+    let mut i: usize = 0;
+    while i < others.len() {
+        if others[i] == x {
+            return false;
+        }
+        i += 1;
+    }
+    true
+}
+
+// Whether no two are equal.
+pub fn all_distinct(points: &[u16]) -> bool
+    ensures { λ r. ⌜ r ≡ distinct eqb (now (points .entry)) ⌝ }
+{
+    let mut i: usize = 0;
+    while i < points.len() {
+        let next = i + 1;
+        if !is_new(points[i], &points[next..]) {
+            return false;
+        }
+        i = next;
+    }
+    true
+}
