@@ -4,7 +4,7 @@ ghost use Rattle.rules.specs.Outcome.{encode-call};
 ghost use Rattle.reader.specs.Calls.{encoded};
 
 mod refusals;
-mod tests;
+pub mod tests;
 mod writing;
 
 // Writing a patch: the values of the message's polynomial at the points, n numbers at the front of the output. The answer is the refusal number, or 0.
