@@ -26,7 +26,7 @@ use Rattle.algebra.proofs.Rows.{zeros-zero}
 use Rattle.algebra.proofs.Hasse.{hasse-taylor}
 
 -- each of a list
-abbrev All : {A : Type 0} → (A → Type 0) → List A → Type 0
+abbrev pub All : {A : Type 0} → (A → Type 0) → List A → Type 0
 All P [] = Unit {0}
 All P (x ∷ xs) = P x × All P xs
 
@@ -60,7 +60,7 @@ module _ (O : Ops) where
   flat-long k fs [] a = tt
   flat-long k fs (g ∷ gs) a = all-append (λ f. length f ≡ suc k) (map (_∷_ g) fs) _ (cons-long k g fs a) (flat-long k fs gs a)
 
-  messages-long : (k : ℕ) → All (λ f. length f ≡ k) (messages O k)
+  pub messages-long : (k : ℕ) → All (λ f. length f ≡ k) (messages O k)
   unfolding messages
   messages-long zero = (refl, tt)
   messages-long (suc k) = flat-long k (messages O k) (O .symbols) (messages-long k)

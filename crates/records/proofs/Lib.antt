@@ -1,2 +1,6 @@
 pub mod Refused
 pub mod Turns
+pub mod Lines
+pub mod Hearing
+pub mod Answered
+pub mod Steps

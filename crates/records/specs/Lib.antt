@@ -1,2 +1,4 @@
 pub mod Holding
 pub mod Did
+pub mod Heard
+pub mod Stub

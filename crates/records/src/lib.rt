@@ -10,6 +10,8 @@ ghost use Rattle.records.specs.Did.{Did, told-turn};
 
 mod points;
 mod settings;
+mod stub;
+mod words;
 
 // "Kind 1: p, n, k, s, τ"
 pub struct Setting {
@@ -88,4 +90,32 @@ fn told(held: Held, number: u64, kind: u16, refusal: u16, more: bool, out: &mut 
     let fields = [kind, refusal];
     let wrote = text::numbered_line(number, &fields, out, 0);
     Done { held, wrote, more }
+}
+
+// Record number `number`, of which the input has these bytes: its lines are written at the front of out.
+pub fn step(held: Held, number: u64, bytes: &[u8], out: &mut [u8]) -> Done
+    requires { ⌜ T (possible (held-of held)) × (length (now bytes) ≤ 132) × (16384 ≤ length (now out)) ⌝ }
+    ensures { λ r. ⌜ T (possible (held-of (r .held))) × Did (turn number (held-of held) (now (bytes .entry))) (now (out .entry)) (now (out .exit)) r ⌝ }
+{
+    if bytes.len() == 0 {
+        return Done {
+            held,
+            wrote: 0,
+            more: false,
+        };
+    }
+    if parsing::is_broken(bytes) {
+        return told(held, number, 0, 10, false, out);
+    }
+    let kind = parsing::pair(bytes, 1);
+    if kind == 1 {
+        return settings::take_setting(number, bytes, out);
+    }
+    if kind == 2 {
+        return points::take_points(held, number, bytes, out);
+    }
+    if kind == 3 {
+        return words::take_word(held, number, bytes, out);
+    }
+    told(held, number, kind, 11, true, out)
 }

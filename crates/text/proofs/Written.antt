@@ -29,7 +29,8 @@ wrote-len {t} {d} {e} {at} h = ap length (h .out) ∙ length-sets d at t
 pub wrote-as : {t u d e : List ℕ} {at r : ℕ} → Wrote t at d e r → t ≡ u → Wrote u at d e r
 wrote-as h q = rw q at h
 
-flat-snoc : (f : ℕ → List ℕ) (xs : List ℕ) (x : ℕ) → flatMap f (xs ++ (x ∷ [])) ≡ flatMap f xs ++ f x
+-- one more at the end
+pub flat-snoc : {A : Type 0} (f : A → List ℕ) (xs : List A) (x : A) → flatMap f (xs ++ (x ∷ [])) ≡ flatMap f xs ++ f x
 unfolding flatMap
 flat-snoc f [] x = append-nil (f x)
 flat-snoc f (y ∷ xs) x = rw (flat-snoc f xs x) (sym (append-assoc (f y) (flatMap f xs) (f x)))
