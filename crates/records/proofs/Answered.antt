@@ -7,15 +7,14 @@ use lib.ListN.{length, take}
 use borrow.Author.Tests.{eq-eqb, ne-eqb}
 use Rattle.rules.specs.Setting.{Setting}
 use Rattle.rules.specs.Search.{rows}
-use Rattle.rules.specs.Patch.{Held, ready, digits, line, body, word-refusal, word-turn, missing, word-comes}
+use Rattle.rules.specs.Patch.{Held, ready, digits, line, word-refusal, word-turn, missing, word-comes}
 use Rattle.text.specs.Wrote.{Wrote}
 use Rattle.text.proofs.Written.{wrote-then, wrote-as}
-use Rattle.records.specs.declared.Done.{Done}
 use Rattle.records.specs.declared.Held.{Held as Record}
 use Rattle.records.specs.declared.Stage.the-variants.{Nothing, Set, Ready}
 use Rattle.records.specs.Holding.{setting-of, held-of}
 use Rattle.records.specs.Did.{Did, told-turn}
-use Rattle.records.specs.Heard.{Listed, Heard, messages-of}
+use Rattle.records.specs.Heard.{Heard, messages-of}
 use Rattle.records.proofs.Lines.{plus-lines}
 
 pub heard-as : {S : Setting} {points word word′ list : List ℕ} {r f : ℕ} → Heard S points word list r f → word ≡ word′ → Heard S points word′ list r f

@@ -21,7 +21,7 @@ use Rattle.setting.specs.Accepted.{Accepted}
 use Rattle.setting.proofs.Accepted.{accepted}
 use Rattle.demands.proofs.Listing.{list-readings}
 use Rattle.reader.proofs.Lowest.{named, first-accept}
-use Rattle.text.proofs.Digits.{lt-or-ge}
+use Rattle.buffers.proofs.Change.{lt-or-ge}
 use Rattle.records.specs.Holding.{possible}
 use Rattle.records.specs.Heard.{Listed, Heard, messages-of}
 use Rattle.records.proofs.Refused.{call-refuses, too-much-work}

@@ -4,3 +4,4 @@ pub mod Lines
 pub mod Hearing
 pub mod Answered
 pub mod Steps
+pub mod Unique

@@ -1,16 +1,14 @@
 -- What the kinds of records do, from what the calls said.
-use mathlib.Core.Path.{_≡_, refl, sym, ap, _∙_}
-use mathlib.Core.Bool.{true, false, cond}
-use mathlib.Core.List.{List, [], _∷_, _++_}
+use mathlib.Core.Path.{_≡_, sym, ap, _∙_}
+use mathlib.Core.Bool.{true}
+use mathlib.Core.List.{List}
 use Prim.Native.Nat.{ℕ, _+_, _≤_}
 use native.Mathlib.Omega.{arith}
-use lib.Dec.{eqb}
 use lib.ListN.{length, getD, take}
-use lib.Seq.{sets, length-sets, sets-eq, take-append-seam, getD-drop}
-use borrow.Author.Tests.{eq-eqb, ne-eqb}
+use lib.Seq.{length-sets, sets-eq, take-append-seam, getD-drop}
+use borrow.Author.Tests.{ne-eqb}
 use Rattle.rules.specs.Setting.{Setting}
-use Rattle.rules.specs.Patch.{Held, nothing, set, ready, Turn, report, line, digits, pairs, body, setting-in, setting-record-refusal, points-refusal, setting-turn, points-turn, missing, points-come}
-use Rattle.text.specs.Wrote.{Wrote}
+use Rattle.rules.specs.Patch.{Held, nothing, set, ready, Turn, pairs, body, setting-in, setting-record-refusal, points-refusal, setting-turn, points-turn, missing, points-come}
 use Rattle.parsing.specs.Body.{Bodied}
 use Rattle.records.specs.declared.Done.{Done}
 use Rattle.records.specs.declared.Held.{Held as Record}

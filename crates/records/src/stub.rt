@@ -1,5 +1,4 @@
 // Stand-in for reader::read.
-ghost use mathlib.Core.Path.{_≡_};
 ghost use Prim.Native.Nat.{_<_};
 ghost use Rattle.rules.specs.Outcome.{Reads};
 ghost use Rattle.setting.specs.Call.{asked};

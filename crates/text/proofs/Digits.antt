@@ -1,21 +1,13 @@
 -- The decimal digits of a number: by its tenth and its last digit, and how many there are.
 use mathlib.Core.Path.{_≡_, sym, ap, _∙_}
-use mathlib.Core.Logic.{_⊎_, inl, inr, ⊎-elim}
+use mathlib.Core.Logic.{⊎-elim}
 use mathlib.Core.List.{List, [], _∷_, _++_}
 use Prim.Native.Nat.{ℕ, zero, suc, _+_, _/_, _%_, _^_, _<_, _≤_}
-use native.Mathlib.Nat.{lt-of-not-le}
-use native.Mathlib.Decide.{decLe}
 use native.Mathlib.Omega.{arith}
 use lib.ListN.{length, length-append}
 use borrow.Author.Tests.{lt-ltb, le-ltb}
+use Rattle.buffers.proofs.Change.{lt-or-ge}
 use Rattle.rules.specs.Patch.{digits-in, digits}
-
-pub lt-or-ge : (n m : ℕ) → (n < m) ⊎ (m ≤ n)
-lt-or-ge n m = go (decLe m n)
-  where
-    go : Dec (m ≤ n) → (n < m) ⊎ (m ≤ n)
-    go (yes l) = inr l
-    go (no l) = inl (lt-of-not-le l)
 
 in-small : (f n : ℕ) → n < 10 → digits-in (suc f) n ≡ (48 + n) ∷ []
 unfolding digits-in

@@ -19,85 +19,59 @@ use native.Mathlib.Omega.{arith}
 use borrow.Author.Needs.{needs}
 use Rattle.records.proofs.step.Statement.{statement}
 use Rattle.records.proofs.step.Tie as tie
-use Rattle.records.proofs.step.Reads as reads
-use Rattle.records.proofs.step.Lts as lts
-use Rattle.parsing.proofs.is_broken.Reads as is-broken-reads
-use Rattle.parsing.proofs.pair.Reads as pair-reads
-use Rattle.records.proofs.points.take_points.Reads as take-points-reads
-use Rattle.records.proofs.settings.take_setting.Reads as take-setting-reads
-use Rattle.records.proofs.told.Reads as told-reads
-use Rattle.records.proofs.words.take_word.Reads as take-word-reads
 
--- src/lib.rt:101:9
 returns : tie.Need-returns
 returns c = stepped (record { held = refl; text = wrote-none _ _; more = refl; within = omega arith }) (c .before .before .before .pre .0) (turn-end (c .before .before .before .args .number) (held-of (c .before .before .before .args .held)) (c .before .before .before .args .bytes .now) (c .if1 .taken))
 
--- src/lib.rt:107:8
 is-broken-requires : tie.Need-is-broken-requires
 is-broken-requires c κs = search needs
 
--- src/lib.rt:108:9
 told-requires : tie.Need-told-requires
 told-requires c κs = search needs
 
--- src/lib.rt:108:9
 same-length : tie.Need-same-length
 same-length c = search needs
 
--- src/lib.rt:108:9
 returns-2 : tie.Need-returns-2
 returns-2 c = stepped (c .before .before .told .ensures) (c .before .before .before .before .before .before .before .before .before .pre .0) (turn-broken _ _ _ (c .before .before .before .before .before .before .if1 .left) (sym (c .before .before .before .before .before .is-broken .ensures) ∙ c .before .before .before .before .if2 .taken))
 
--- src/lib.rt:110:9
 pair-requires : tie.Need-pair-requires
 pair-requires c κs = let w = whole-long (c .before .before .before .before .before .args .bytes .now) (sym (c .before .is-broken .ensures) ∙ c .if2 .left) in omega arith
 
--- src/lib.rt:112:9
 take-setting-requires : tie.Need-take-setting-requires
 unfolding kind
 take-setting-requires c κs = let w = whole-long (c .before .before .before .before .before .before .before .before .args .bytes .now) (sym (c .before .before .before .before .is-broken .ensures) ∙ c .before .before .before .if2 .left) in let f = whole-five (c .before .before .before .before .before .before .before .before .args .bytes .now) (sym (c .before .before .before .before .is-broken .ensures) ∙ c .before .before .before .if2 .left) (sym (c .before .before .pair .ensures) ∙ c .before .if3 .taken) in (omega arith, search needs)
 
--- src/lib.rt:112:9
 same-length-2 : tie.Need-same-length-2
 same-length-2 c = search needs
 
--- src/lib.rt:112:9
 returns-3 : tie.Need-returns-3
 returns-3 c = stepped (c .before .before .take-setting .ensures) (setting-possible _ _) (turn-setting _ _ _ (c .before .before .before .before .before .before .before .before .if1 .left) (sym (c .before .before .before .before .before .before .before .is-broken .ensures) ∙ c .before .before .before .before .before .before .if2 .left) (c .before .before .before .before .before .pair .ensures) (c .before .before .before .before .if3 .taken))
 
--- src/lib.rt:115:9
 take-points-requires : tie.Need-take-points-requires
 take-points-requires c κs = let w = whole-long (c .before .before .before .before .before .before .before .before .before .args .bytes .now) (sym (c .before .before .before .before .before .is-broken .ensures) ∙ c .before .before .before .before .if2 .left) in (omega arith, c .before .before .before .before .before .before .before .before .before .pre .1, search needs)
 
--- src/lib.rt:115:9
 same-length-3 : tie.Need-same-length-3
 same-length-3 c = search needs
 
--- src/lib.rt:115:9
 returns-4 : tie.Need-returns-4
 returns-4 c = stepped (c .before .before .take-points .ensures) (come-possible _ _ _ (c .before .before .before .before .before .before .before .before .before .before .before .before .pre .0)) (turn-points _ _ _ (c .before .before .before .before .before .before .before .before .before .if1 .left) (sym (c .before .before .before .before .before .before .before .before .is-broken .ensures) ∙ c .before .before .before .before .before .before .before .if2 .left) (c .before .before .before .before .before .before .pair .ensures) (c .before .before .before .before .if4 .taken))
 
--- src/lib.rt:118:9
 take-word-requires : tie.Need-take-word-requires
 take-word-requires c κs = let w = whole-long (c .before .before .before .before .before .before .before .before .before .before .args .bytes .now) (sym (c .before .before .before .before .before .before .is-broken .ensures) ∙ c .before .before .before .before .before .if2 .left) in (c .before .before .before .before .before .before .before .before .before .before .pre .0, omega arith, c .before .before .before .before .before .before .before .before .before .before .pre .1, search needs)
 
--- src/lib.rt:118:9
 same-length-4 : tie.Need-same-length-4
 same-length-4 c = search needs
 
--- src/lib.rt:118:9
 returns-5 : tie.Need-returns-5
 returns-5 c = stepped (c .before .before .take-word .ensures) (word-possible _ _ _ (c .before .before .before .before .before .before .before .before .before .before .before .before .before .pre .0)) (turn-word _ _ _ (c .before .before .before .before .before .before .before .before .before .before .if1 .left) (sym (c .before .before .before .before .before .before .before .before .before .is-broken .ensures) ∙ c .before .before .before .before .before .before .before .before .if2 .left) (c .before .before .before .before .before .before .before .pair .ensures) (c .before .before .before .before .if5 .taken))
 
--- src/lib.rt:120:5
 told-requires-2 : tie.Need-told-requires-2
 told-requires-2 c κs = search needs
 
--- src/lib.rt:96:1
 same-length-5 : tie.Need-same-length-5
 same-length-5 c = search needs
 
--- src/lib.rt:96:1
 returns-6 : tie.Need-returns-6
 returns-6 c = stepped (c .before .before .told2 .ensures) (c .before .before .before .before .before .before .before .before .before .before .before .before .before .pre .0) (turn-other _ _ _ (c .before .before .before .before .before .before .before .before .before .before .if1 .left) (sym (c .before .before .before .before .before .before .before .before .before .is-broken .ensures) ∙ c .before .before .before .before .before .before .before .before .if2 .left) (c .before .before .before .before .before .before .before .pair .ensures) (c .before .before .before .before .before .before .if3 .left) (c .before .before .before .before .before .if4 .left) (c .before .before .before .before .if5 .left))
 

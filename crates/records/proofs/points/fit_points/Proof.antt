@@ -2,63 +2,43 @@ use mathlib.Core.Path.{refl, sym, ap, _∙_}
 use lib.Seq.{length-take-le}
 use Rattle.rules.specs.Patch.{points-refusal}
 use Rattle.records.proofs.Turns.{did-as, body-front, body-short, points-taken, points-refused}
-use native.Mathlib.Omega.{arith}
 use borrow.Author.Needs.{needs}
 use Rattle.records.proofs.points.fit_points.Statement.{statement}
 use Rattle.records.proofs.points.fit_points.Tie as tie
-use Rattle.records.proofs.points.fit_points.Reads as reads
-use Rattle.records.proofs.points.fit_points.Lts as lts
-use Rattle.parsing.proofs.read_body.Reads as read-body-reads
-use Rattle.records.proofs.points.points_refusal.Reads as points-refusal-reads
-use Rattle.records.proofs.told.Reads as told-reads
-use Rattle.records.proofs.with_points.Reads as with-points-reads
-use Rattle.records.proofs.with_setting.Reads as with-setting-reads
 
--- src/points.rt:32:9
 read-body-requires : tie.Need-read-body-requires
 read-body-requires c κs = search needs
 
--- src/points.rt:33:43
 array-share-prefix-points : tie.Need-array-share-prefix-points
 array-share-prefix-points c = body-short refl (c .read-body .ensures)
 
--- src/points.rt:33:43
 slice-aggregate-points-refusal : tie.Need-slice-aggregate-points-refusal
 slice-aggregate-points-refusal c = sym (length-take-le _ _ (body-short refl (c .before .read-body .ensures)))
 
--- src/points.rt:33:9
 points-refusal-requires : tie.Need-points-refusal-requires
 points-refusal-requires c κs = search needs
 
--- src/points.rt:35:13
 with-points-requires : tie.Need-with-points-requires
 with-points-requires c κs = search needs
 
--- src/points.rt:36:9
 told-requires : tie.Need-told-requires
 told-requires c κs = search needs
 
--- src/points.rt:36:9
 same-length : tie.Need-same-length
 same-length c = search needs
 
--- src/points.rt:36:9
 returns : tie.Need-returns
 returns c = did-as (c .before .before .told .ensures) (points-taken _ _ _ (c .before .before .before .before .before .before .points-refusal .ensures ∙ ap (points-refusal _) (body-front refl (c .before .before .before .before .before .before .before .before .read-body .ensures))) (c .before .before .before .before .before .if1 .taken) _ (c .before .before .before .before .before .before .before .before .read-body .ensures .count) (body-front refl (c .before .before .before .before .before .before .before .before .read-body .ensures)) (c .before .before .before .before .with-points .ensures))
 
--- src/points.rt:38:9
 with-setting-requires : tie.Need-with-setting-requires
 with-setting-requires c κs = search needs
 
--- src/points.rt:39:5
 told-requires-2 : tie.Need-told-requires-2
 told-requires-2 c κs = search needs
 
--- src/points.rt:27:1
 same-length-2 : tie.Need-same-length-2
 same-length-2 c = search needs
 
--- src/points.rt:27:1
 returns-2 : tie.Need-returns-2
 returns-2 c = did-as (c .before .before .told2 .ensures) (points-refused _ _ _ (c .before .before .before .before .before .before .points-refusal .ensures ∙ ap (points-refusal _) (body-front refl (c .before .before .before .before .before .before .before .before .read-body .ensures))) (c .before .before .before .before .before .if1 .left) (c .before .before .before .before .with-setting .ensures))
 

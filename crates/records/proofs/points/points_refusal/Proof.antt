@@ -1,44 +1,31 @@
 use mathlib.Core.Path.{sym, _∙_}
 use borrow.Author.Tests.{not-true, not-false}
 use Rattle.records.proofs.Refused.{points-5, points-6, points-7, points-0}
-use native.Mathlib.Omega.{arith}
 use borrow.Author.Needs.{needs}
 use Rattle.records.proofs.points.points_refusal.Statement.{statement}
 use Rattle.records.proofs.points.points_refusal.Tie as tie
-use Rattle.records.proofs.points.points_refusal.Reads as reads
-use Rattle.records.proofs.points.points_refusal.Lts as lts
-use Rattle.reader.proofs.tests.all_below.Reads as all-below-reads
-use Rattle.reader.proofs.tests.all_distinct.Reads as all-distinct-reads
 
--- src/points.rt:14:24
 cast-if1 : tie.Need-cast-if1
 cast-if1 c = search needs
 
--- src/points.rt:15:9
 returns : tie.Need-returns
 returns c = points-5 _ _ (c .if1 .taken)
 
--- src/points.rt:17:34
 cast-all-below : tie.Need-cast-all-below
 cast-all-below c = search needs
 
--- src/points.rt:17:9
 all-below-requires : tie.Need-all-below-requires
 all-below-requires c κs = search needs
 
--- src/points.rt:18:9
 returns-2 : tie.Need-returns-2
 returns-2 c = points-6 _ _ (c .before .before .before .if1 .left) (sym (c .before .all-below .ensures) ∙ not-true _ (c .if2 .taken))
 
--- src/points.rt:20:9
 all-distinct-requires : tie.Need-all-distinct-requires
 all-distinct-requires c κs = search needs
 
--- src/points.rt:21:9
 returns-3 : tie.Need-returns-3
 returns-3 c = points-7 _ _ (c .before .before .before .before .before .if1 .left) (sym (c .before .before .before .all-below .ensures) ∙ not-false _ (c .before .before .if2 .left)) (sym (c .before .all-distinct .ensures) ∙ not-true _ (c .if3 .taken))
 
--- src/points.rt:11:1
 returns-4 : tie.Need-returns-4
 returns-4 c = points-0 _ _ (c .before .before .before .before .before .if1 .left) (sym (c .before .before .before .all-below .ensures) ∙ not-false _ (c .before .before .if2 .left)) (sym (c .before .all-distinct .ensures) ∙ not-false _ (c .if3 .left))
 

@@ -5,43 +5,31 @@ use native.Mathlib.Omega.{arith}
 use borrow.Author.Needs.{needs}
 use Rattle.records.proofs.settings.setting_refusal.Statement.{statement}
 use Rattle.records.proofs.settings.setting_refusal.Tie as tie
-use Rattle.records.proofs.settings.setting_refusal.Reads as reads
-use Rattle.records.proofs.settings.setting_refusal.Lts as lts
-use Rattle.setting.proofs.derive.Reads as derive-reads
 
--- src/settings.rt:28:9
 cast-derive : tie.Need-cast-derive
 cast-derive c = search needs
 
--- src/settings.rt:29:9
 cast-derive-2 : tie.Need-cast-derive-2
 cast-derive-2 c = search needs
 
--- src/settings.rt:30:9
 cast-derive-3 : tie.Need-cast-derive-3
 cast-derive-3 c = search needs
 
--- src/settings.rt:31:9
 cast-derive-4 : tie.Need-cast-derive-4
 cast-derive-4 c = search needs
 
--- src/settings.rt:32:9
 cast-derive-5 : tie.Need-cast-derive-5
 cast-derive-5 c = search needs
 
--- src/settings.rt:27:9
 derive-requires : tie.Need-derive-requires
 derive-requires c κs = search needs
 
--- src/settings.rt:35:9
 returns : tie.Need-returns
 returns c = call-refuses _ (refusal-is _ (c .before .before .derive .result) (c .before .before .derive .ensures)) (c .if1 .taken)
 
--- src/settings.rt:38:9
 returns-2 : tie.Need-returns-2
 returns-2 c = let d = c .before .before .before .before .derive in let t = taken _ (d .result) (d .ensures) (c .before .before .if1 .left) in too-much-work _ (sym (refusal-is _ (d .result) (d .ensures)) ∙ c .before .before .if1 .left) (omega (arith, t .is-R))
 
--- src/settings.rt:24:1
 returns-3 : tie.Need-returns-3
 returns-3 c = let d = c .before .before .before .before .derive in let t = taken _ (d .result) (d .ensures) (c .before .before .if1 .left) in enough-work _ (sym (refusal-is _ (d .result) (d .ensures)) ∙ c .before .before .if1 .left) (omega (arith, t .is-R))
 

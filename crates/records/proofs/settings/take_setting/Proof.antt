@@ -1,53 +1,35 @@
 use Rattle.records.proofs.Turns.{did-as, set-taken, set-refused}
-use native.Mathlib.Omega.{arith}
 use borrow.Author.Needs.{needs}
 use Rattle.records.proofs.settings.take_setting.Statement.{statement}
 use Rattle.records.proofs.settings.take_setting.Tie as tie
-use Rattle.records.proofs.settings.take_setting.Reads as reads
-use Rattle.records.proofs.settings.take_setting.Lts as lts
-use Rattle.records.proofs.settings.read_setting.Reads as read-setting-reads
-use Rattle.records.proofs.settings.setting_refusal.Reads as setting-refusal-reads
-use Rattle.records.proofs.start.Reads as start-reads
-use Rattle.records.proofs.told.Reads as told-reads
-use Rattle.records.proofs.with_setting.Reads as with-setting-reads
 
--- src/settings.rt:47:9
 read-setting-requires : tie.Need-read-setting-requires
 read-setting-requires c κs = search needs
 
--- src/settings.rt:48:9
 setting-refusal-requires : tie.Need-setting-refusal-requires
 setting-refusal-requires c κs = search needs
 
--- src/settings.rt:50:13
 with-setting-requires : tie.Need-with-setting-requires
 with-setting-requires c κs = search needs
 
--- src/settings.rt:51:9
 told-requires : tie.Need-told-requires
 told-requires c κs = search needs
 
--- src/settings.rt:51:9
 same-length : tie.Need-same-length
 same-length c = search needs
 
--- src/settings.rt:51:9
 returns : tie.Need-returns
 returns c = did-as (c .before .before .told .ensures) (set-taken _ _ (c .before .before .before .before .before .before .before .read-setting .ensures) (c .before .before .before .before .before .before .setting-refusal .ensures) (c .before .before .before .before .before .if1 .taken) (c .before .before .before .before .with-setting .ensures))
 
--- src/settings.rt:53:9
 start-requires : tie.Need-start-requires
 start-requires c κs = search needs
 
--- src/settings.rt:54:5
 told-requires-2 : tie.Need-told-requires-2
 told-requires-2 c κs = search needs
 
--- src/settings.rt:43:1
 same-length-2 : tie.Need-same-length-2
 same-length-2 c = search needs
 
--- src/settings.rt:43:1
 returns-2 : tie.Need-returns-2
 returns-2 c = did-as (c .before .before .told2 .ensures) (set-refused _ _ (c .before .before .before .before .before .before .before .read-setting .ensures) (c .before .before .before .before .before .before .setting-refusal .ensures) (c .before .before .before .before .before .if1 .left) (c .before .before .before .before .start .ensures))
 

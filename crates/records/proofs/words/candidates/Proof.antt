@@ -11,9 +11,6 @@ use native.Mathlib.Omega.{arith}
 use borrow.Author.Needs.{needs}
 use Rattle.records.proofs.words.candidates.Statement.{statement}
 use Rattle.records.proofs.words.candidates.Tie as tie
-use Rattle.records.proofs.words.candidates.Reads as reads
-use Rattle.records.proofs.words.candidates.Lts as lts
-use Rattle.text.proofs.plus_line.Reads as plus-line-reads
 
 abbrev Inv-loop : tie.InvT-loop
 Inv-loop list k found out₀ at j₀ a₀ to₀ out j a to = (j ≤ found) × (a ≡ j * k) × (to ≤ at + j * (k * 6 + 2)) × (length out ≡ length out₀) × Wrote (plus-lines (rows k j list)) at out₀ out to
@@ -21,43 +18,33 @@ Inv-loop list k found out₀ at j₀ a₀ to₀ out j a to = (j ≤ found) × (a
 abbrev μ-loop : tie.MeasureT-loop
 μ-loop list k found out₀ at j₀ a₀ to₀ out j a to = found - j
 
--- src/words.rt:29:5
 loop-holds : tie.Need-loop-holds Inv-loop μ-loop
 loop-holds c = (omega arith, omega (arith, zero-mul (c .before .before .args .k)), omega arith, refl, wrote-as (wrote-none _ _) (lines-none _ _))
 
--- src/words.rt:30:17
 add-e : tie.Need-add-e Inv-loop μ-loop
 add-e c = let f = row-fits {t = c .before .loop .j} {n = c .before .before .before .before .args .found} (c .before .before .before .before .args .k) (c .loop-test .taken) in search needs
 
--- src/words.rt:31:30
 mul-plus-line : tie.Need-mul-plus-line Inv-loop μ-loop
 mul-plus-line c = let f = row-fits {t = c .before .loop .j} {n = c .before .before .before .before .args .found} (c .before .before .before .before .args .k) (c .loop-test .taken) in search needs
 
--- src/words.rt:31:30
 sub-plus-line : tie.Need-sub-plus-line Inv-loop μ-loop
 sub-plus-line c = search needs
 
--- src/words.rt:31:30
 part-plus-line-start : tie.Need-part-plus-line-start Inv-loop μ-loop
 part-plus-line-start c = search needs
 
--- src/words.rt:31:30
 part-plus-line-end : tie.Need-part-plus-line-end Inv-loop μ-loop
 part-plus-line-end c = let f = row-fits {t = c .before .loop .j} {n = c .before .before .before .before .args .found} (c .before .before .before .before .args .k) (c .loop-test .taken) in search needs
 
--- src/words.rt:31:9
 plus-line-requires : tie.Need-plus-line-requires Inv-loop μ-loop
 plus-line-requires c κs = let f = row-fits {t = c .before .before .before .loop .j} {n = c .before .before .before .before .before .before .args .found} (c .before .before .before .before .before .before .args .k) (c .before .before .loop-test .taken) in let g = row-fits {t = c .before .before .before .loop .j} {n = c .before .before .before .before .before .before .args .found} (c .before .before .before .before .before .before .args .k * 6 + 2) (c .before .before .loop-test .taken) in omega (arith, part-long (c .before .before .before .loop .a) (c .before .before .before .before .before .before .args .k) (c .before .before .before .before .before .before .args .list .now) (omega arith))
 
--- src/words.rt:33:9
 add-j : tie.Need-add-j Inv-loop μ-loop
 add-j c = search needs
 
--- src/words.rt:29:5
 loop-less : tie.Need-loop-less Inv-loop μ-loop
 loop-less c = search needs
 
--- src/words.rt:29:5
 loop-again : tie.Need-loop-again Inv-loop μ-loop
 loop-again c = let l = c .before .before .before .before .before .before .loop in let x = c .before .before .before .before .before .before .before .before .before .args in let f = row-fits {t = l .j} {n = x .found} (x .k) (c .before .before .before .before .before .loop-test .taken) in let w = c .before .before .plus-line .ensures in (
   omega arith,
@@ -67,11 +54,9 @@ loop-again c = let l = c .before .before .before .before .before .before .loop i
   wrote-as (wrote-then (l .inv .4) (w .1)) (lines-more (x .k) (l .j) (l .a) (l .a + x .k) (x .list .now) (l .inv .1) refl),
 )
 
--- src/words.rt:22:1
 same-length : tie.Need-same-length Inv-loop μ-loop
 same-length c = search needs
 
--- src/words.rt:22:1
 returns : tie.Need-returns Inv-loop μ-loop
 returns c = let l = c .before .loop in let x = c .before .before .before .before .args in let q : l .j ≡ x .found = omega arith in
     (omega (arith, ap (λ n. n * (x .k * 6 + 2)) q), wrote-as (l .inv .4) (ap (λ n. plus-lines (rows (x .k) n (x .list .now))) q))

@@ -7,69 +7,47 @@ use native.Mathlib.Omega.{arith}
 use borrow.Author.Needs.{needs}
 use Rattle.records.proofs.words.read_word.Statement.{statement}
 use Rattle.records.proofs.words.read_word.Tie as tie
-use Rattle.records.proofs.words.read_word.Reads as reads
-use Rattle.records.proofs.words.read_word.Lts as lts
-use Rattle.parsing.proofs.read_body.Reads as read-body-reads
-use Rattle.records.proofs.told.Reads as told-reads
-use Rattle.records.proofs.with_points.Reads as with-points-reads
-use Rattle.records.proofs.words.candidates.Reads as candidates-reads
-use Rattle.records.proofs.words.read_held.Reads as read-held-reads
-use Rattle.text.proofs.numbered_line.Reads as numbered-line-reads
 
--- src/words.rt:83:9
 with-points-requires : tie.Need-with-points-requires
 with-points-requires c κs = search needs
 
--- src/words.rt:85:9
 read-body-requires : tie.Need-read-body-requires
 read-body-requires c κs = search needs
 
--- src/words.rt:87:9
 read-held-requires : tie.Need-read-held-requires
 read-held-requires c κs = search needs
 
--- src/words.rt:90:9
 told-requires : tie.Need-told-requires
 told-requires c κs = search needs
 
--- src/words.rt:90:9
 same-length : tie.Need-same-length
 same-length c = search needs
 
--- src/words.rt:90:9
 returns : tie.Need-returns
 returns c = let h = heard-as (c .before .before .before .before .before .read-held .ensures) (body-front refl (c .before .before .before .before .before .before .before .before .before .read-body .ensures)) in did-as (c .before .before .told .ensures) (word-refused _ h (c .before .before .before .before .if1 .taken) (c .before .before .before .before .before .before .before .before .before .before .before .with-points .ensures))
 
--- src/words.rt:94:42
 slice-aggregate-numbered-line : tie.Need-slice-aggregate-numbered-line
 slice-aggregate-numbered-line c = search needs
 
--- src/words.rt:94:9
 numbered-line-requires : tie.Need-numbered-line-requires
 numbered-line-requires c κs = search needs
 
--- src/words.rt:95:28
 slice-aggregate-candidates : tie.Need-slice-aggregate-candidates
 slice-aggregate-candidates c = sym (c .before .before .before .before .before .before .before .read-held .ensures .list-long)
 
--- src/words.rt:95:35
 cast-candidates : tie.Need-cast-candidates
 cast-candidates c = search needs
 
--- src/words.rt:95:55
 cast-candidates-2 : tie.Need-cast-candidates-2
 cast-candidates-2 c = search needs
 
--- src/words.rt:95:9
 candidates-requires : tie.Need-candidates-requires
 candidates-requires c κs = let h = heard-as (c .before .before .before .before .before .before .before .before .before .read-held .ensures) (body-front refl (c .before .before .before .before .before .before .before .before .before .before .before .before .before .read-body .ensures)) in let l = h .accepted (c .before .before .before .before .before .before .before .before .if1 .left) in let n = c .before .before .before .before .before .numbered-line .ensures in
     (search (needs, l .room), omega (arith, h .list-long, l .room, l .few, lines-room (c .before .before .before .before .before .before .before .before .before .read-held .result .found) (c .before .before .before .before .before .before .before .before .before .before .before .before .before .before .before .before .before .before .args .setting .k), n .0, wrote-len (n .1), c .before .before .before .before .before .before .before .before .before .before .before .before .before .before .before .before .before .before .pre))
 
--- src/words.rt:73:1
 same-length-2 : tie.Need-same-length-2
 same-length-2 c = search needs
 
--- src/words.rt:73:1
 returns-2 : tie.Need-returns-2
 returns-2 c = let h = heard-as (c .before .before .before .before .before .before .before .before .before .before .before .before .read-held .ensures) (body-front refl (c .before .before .before .before .before .before .before .before .before .before .before .before .before .before .before .before .read-body .ensures)) in let l = h .accepted (c .before .before .before .before .before .before .before .before .before .before .before .if1 .left) in let n = c .before .before .before .before .before .before .before .before .numbered-line .ensures in let p = c .before .before .candidates .ensures in
     word-heard _ h (c .before .before .before .before .before .before .before .before .before .before .before .if1 .left) (n .1) (p .1) (c .before .before .before .before .before .before .before .before .before .before .before .before .before .before .before .before .before .before .with-points .ensures)

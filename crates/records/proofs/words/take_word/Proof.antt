@@ -4,60 +4,43 @@ use lib.Dec.{T}
 use Rattle.records.specs.Holding.{possible}
 use Rattle.records.proofs.Turns.{did-as}
 use Rattle.records.proofs.Answered.{word-nothing, word-set, held-ready, word-ready}
-use native.Mathlib.Omega.{arith}
 use borrow.Author.Needs.{needs}
 use Rattle.records.proofs.words.take_word.Statement.{statement}
 use Rattle.records.proofs.words.take_word.Tie as tie
-use Rattle.records.proofs.words.take_word.Reads as reads
-use Rattle.records.proofs.words.take_word.Lts as lts
-use Rattle.records.proofs.told.Reads as told-reads
-use Rattle.records.proofs.words.read_word.Reads as read-word-reads
 
--- src/words.rt:111:59
 enum-told : tie.Need-enum-told
 enum-told c = search needs
 
--- src/words.rt:111:27
 told-requires : tie.Need-told-requires
 told-requires c κs = search needs
 
--- src/words.rt:112:55
 enum-told-2 : tie.Need-enum-told-2
 enum-told-2 c = search needs
 
--- src/words.rt:112:23
 told-requires-2 : tie.Need-told-requires-2
 told-requires-2 c κs = search needs
 
--- src/words.rt:113:67
 enum-told-3 : tie.Need-enum-told-3
 enum-told-3 c = search needs
 
--- src/words.rt:113:25
 read-word-requires : tie.Need-read-word-requires
 read-word-requires c κs = let e = c .before .enum-told3 .given .1 in let x = c .before .before .before .before .before .before .before in (subst (λ h. T (possible h)) (held-ready 0 (x .args .held) [] e) (x .pre .0), x .pre .1, x .pre .2, search needs)
 
--- src/words.rt:103:1
 same-length : tie.Need-same-length
 same-length c = search needs
 
--- src/words.rt:103:1
 returns : tie.Need-returns
 returns c = did-as (c .before .before .told .ensures) (word-nothing _ _ _ (c .before .before .before .before .enum-told .given .1))
 
--- src/words.rt:103:1
 same-length-2 : tie.Need-same-length-2
 same-length-2 c = search needs
 
--- src/words.rt:103:1
 returns-2 : tie.Need-returns-2
 returns-2 c = did-as (c .before .before .told2 .ensures) (word-set _ _ _ (c .before .before .before .before .enum-told2 .given .1))
 
--- src/words.rt:103:1
 same-length-3 : tie.Need-same-length-3
 same-length-3 c = search needs
 
--- src/words.rt:103:1
 returns-3 : tie.Need-returns-3
 returns-3 c = did-as (c .before .before .read-word .ensures) (word-ready _ _ _ (c .before .before .before .before .enum-told3 .given .1))
 
