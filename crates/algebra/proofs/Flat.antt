@@ -24,7 +24,7 @@ use Rattle.algebra.proofs.Complete.{weighted-at}
 use Rattle.algebra.proofs.Passes.{passes-says, passes-found}
 
 -- every place of a flat curve is that of a term
-each-place : (W n : ℕ) (X : ℕ → Type 0) → ((t i : ℕ) → t < n → i < W → X (t * W + i)) → (m : ℕ) → m < n * W → X m
+pub each-place : (W n : ℕ) (X : ℕ → Type 0) → ((t i : ℕ) → t < n → i < W → X (t * W + i)) → (m : ℕ) → m < n * W → X m
 each-place W n X h m l = go (decLt 0 W)
   where
     go : Dec (0 < W) → X m

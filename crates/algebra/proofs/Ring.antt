@@ -78,6 +78,13 @@ module _ (O : Ops) (L : Laws O) where
   no-zero-divisor c x n e =
       sym (L .mul-one x) ∙ ap (mul x) (sym (L .mul-inverse c n)) ∙ (simp (mul-left-comm, L .mul-comm)) ∙ ap (mul (inverse O c)) e ∙ mul-nil _
 
+  -- where i takes y to one, x loses x·i of y
+  pub clears : (x y i : Symbol) → mul y i ≡ one → add x (mul (neg O (mul x i)) y) ≡ nil
+  clears x y i h =
+      let q = mul x i in
+      let whole : x ≡ mul q y = sym (L .mul-assoc x i y ∙ ap (mul x) (L .mul-comm i y ∙ h) ∙ L .mul-one x) in
+      ap (λ z. add z (mul (neg O q) y)) whole ∙ sym (add-mul q (neg O q) y) ∙ ap (λ z. mul z y) (add-neg q) ∙ nil-mul y
+
   pub of-add : (m n : ℕ) → ofNat (m + n) ≡ add (ofNat m) (ofNat n)
   of-add zero n = ap ofNat (zero-add n) ∙ sym (nil-add _) ∙ ap (λ x. add x (ofNat n)) (sym (L .of-zero))
   of-add (suc m) n = ap ofNat (suc-add m n) ∙ L .of-suc (m + n) ∙ ap (add one) (of-add m n) ∙ sym (L .add-assoc _ _ _) ∙ ap (λ x. add x (ofNat n)) (sym (L .of-suc m))

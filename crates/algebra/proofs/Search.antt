@@ -24,7 +24,7 @@ use Rattle.algebra.proofs.Rows.{zeros-zero, cell-firsts, follows-eval}
 use Rattle.algebra.proofs.Step.{along-step, along-first, taylor-same, step-same}
 use Rattle.algebra.proofs.Strip.{stripped-roots, stripped-cells}
 
-keep-append : {A : Type 0} (test : A → Bool) (xs ys : List A) → keep test (xs ++ ys) ≡ keep test xs ++ keep test ys
+pub keep-append : {A : Type 0} (test : A → Bool) (xs ys : List A) → keep test (xs ++ ys) ≡ keep test xs ++ keep test ys
 unfolding keep
 keep-append test [] ys = refl
 keep-append test (x ∷ xs) ys = rw (keep-append test xs ys) (go (test x))

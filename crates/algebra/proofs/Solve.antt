@@ -13,7 +13,7 @@ use Rattle.rules.specs.Code.{Triple}
 use Rattle.algebra.specs.Poly.{neg}
 use Rattle.algebra.specs.Conditions.{Condition, condition, conditions-along, conditions-at, conditions, Ready}
 use Rattle.algebra.specs.Space.{Space, In, rank, Curve, mix, value, Basis, Least, Pivot, raised, Best, Answer}
-use Rattle.algebra.proofs.Ring.{add-mul, nil-mul, add-neg, decide}
+use Rattle.algebra.proofs.Ring.{clears, decide}
 use Rattle.algebra.proofs.Plan.{map-more, flat-more, ready}
 use Rattle.algebra.proofs.Basis.{start, quiet, step, end}
 use Rattle.algebra.proofs.Least.{least-start, least-quiet, least-step, answer}
@@ -82,12 +82,6 @@ module _ (O : Ops) (L : Laws O) (S : Space) where
     basis : Basis O S cs d g
     least : Least O S cs d
 
-  ratio-clears : (x y : Symbol) → ¬ (y ≡ nil) → add x (mul (neg O (mul x (inverse O y))) y) ≡ nil
-  ratio-clears x y h =
-      let q = mul x (inverse O y) in
-      let whole : x ≡ mul q y = sym (L .mul-assoc x _ y ∙ ap (mul x) (L .mul-comm _ y ∙ L .mul-inverse y h) ∙ L .mul-one x) in
-      ap (λ z. add z (mul (neg O q) y)) whole ∙ sym (add-mul O L q (neg O q) y) ∙ ap (λ z. mul z y) (add-neg O L q) ∙ nil-mul O L y
-
   next : {cs : List (Condition Symbol)} (c : Condition Symbol) → Ready cs c → State cs → State (cs ++ (c ∷ []))
   next {cs} c r s = go (argmin Off off? key (suc (S .top)))
     where
@@ -137,7 +131,7 @@ module _ (O : Ops) (L : Laws O) (S : Space) where
             stay = λ j l n. choose-no (ℕ-discrete j p) (suc (d p)) (d j) n;
             raise = λ a i t h. ap (λ f. f i t) (choose-yes (ℕ-discrete p p) (raised O c (g p)) (mix O (g p) (ratio p) (g p)) refl);
             ratio = ratio;
-            clears = λ j a n. ratio-clears _ _ (m .has .1);
+            clears = λ j a n. clears O L _ _ _ (L .mul-inverse _ (m .has .1));
             reduce = λ j a n i t h. ap (λ f. f i t) (choose-no (ℕ-discrete j p) (raised O c (g p)) (mix O (g j) (ratio j) (g p)) n);
           }
 

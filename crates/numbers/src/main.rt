@@ -1,4 +1,5 @@
 // Document 01's numbers that are run and compared: a table of cases for each call, and a line for each case.
+mod patches;
 mod settings;
 mod symbols;
 mod text;
@@ -6,4 +7,5 @@ mod text;
 fn main() {
     settings::run();
     symbols::run();
+    patches::run();
 }

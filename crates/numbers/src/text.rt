@@ -5,3 +5,8 @@ pub fn put(x: usize, after: u8) {
     io::print_decimal(1, x as u64);
     io::write_all(1, &[after]);
 }
+
+// The same for a number of 16 bits.
+pub fn put_symbol(x: u16, after: u8) {
+    put(x as usize, after);
+}

@@ -1,7 +1,11 @@
--- What a test's answer r tells of the test b, where the code asks `!r`.
+-- What the code's tests tell of the definitions' tests: an answer r of the test b, where the code asks `!r`; and a length.
 use mathlib.Core.Path.{_≡_, sym, _∙_}
 use mathlib.Core.Bool.{Bool, true, false, not}
-use borrow.Author.Tests.{not-true, not-false}
+use mathlib.Core.List.{List}
+use Prim.Native.Nat.{ℕ}
+use lib.ListN.{length}
+use borrow.Author.Tests.{not-true, not-false, eq-eqb, ne-eqb}
+use Rattle.rules.specs.Refusal.{long}
 
 module _ {r b : Bool} (is : r ≡ b) where
   pub holds : not r ≡ false → b ≡ true
@@ -9,3 +13,12 @@ module _ {r b : Bool} (is : r ≡ b) where
 
   pub fails : not r ≡ true → b ≡ false
   fails e = sym is ∙ not-true r e
+
+module _ {n : ℕ} (xs : List ℕ) where
+  pub is-long : length xs ≡ n → long n xs ≡ true
+  unfolding long
+  is-long e = eq-eqb (length xs) n e
+
+  pub not-long : ¬ (length xs ≡ n) → long n xs ≡ false
+  unfolding long
+  not-long h = ne-eqb (length xs) n h

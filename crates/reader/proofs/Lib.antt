@@ -5,4 +5,13 @@ mod Front
 pub mod Lowest
 mod Pair
 mod Encoding
+mod Shape
+mod Times
+mod Checking
+mod Finding
+mod Scoring
+mod Runs
+mod Kept
+mod Listing
+mod Listed
 pub mod Unique

@@ -1,4 +1,4 @@
--- What holds of points and symbols that are not refused.
+-- What holds of points, symbols and a proposed curve that are not refused.
 use mathlib.Core.Path.{_≡_}
 use mathlib.Core.Bool.{Bool, true, false, not, _&&_}
 use mathlib.Core.List.{List, [], _∷_}
@@ -8,7 +8,7 @@ use lib.Dec.{T, eqb, eqb→eq}
 use lib.ListN.{length}
 use Rattle.rules.specs.Lists.{distinct}
 use Rattle.rules.specs.Refusal.{_if_, lowest, long, under}
-use Rattle.reader.specs.Causes.{pair-causes}
+use Rattle.reader.specs.Causes.{pair-causes, proposed-causes}
 use Rattle.reader.proofs.Lowest.{named}
 
 -- n points below p, no two equal, and m symbols below p
@@ -44,3 +44,32 @@ module _ (p n : ℕ) (points : List ℕ) (m : ℕ) (symbols : List ℕ) where
   pub pair-named : T (named (pair-causes p n points m symbols))
   unfolding pair-causes named
   pair-named = tt
+
+-- a pair of points and word, and a curve of so many numbers below p
+pub record Proposed (p n : ℕ) (points word : List ℕ) (size : ℕ) (Q : List ℕ) : Type 0 where
+  pub given : Pair p n points n word
+  pub curve-long : length Q ≡ size
+  pub curve-under : T (under p Q)
+
+-- of three tests in one the last decides where the others hold
+split : (a b c d e f g : Bool) → lowest ((5 if not (a && b && c)) ∷ (6 if not (d && e && f)) ∷ (7 if not g) ∷ []) ≡ 0
+    → (lowest ((5 if not (a && b)) ∷ (6 if not (d && e)) ∷ (7 if not g) ∷ []) ≡ 0) × T c × T f
+unfolding lowest
+split true true true true true true g z = (z, tt, tt)
+split true true true true true false g z = absurd (omega arith)
+split true true true true false f g z = absurd (omega arith)
+split true true true false e f g z = absurd (omega arith)
+split true true false d e f g z = absurd (omega arith)
+split true false c d e f g z = absurd (omega arith)
+split false b c d e f g z = absurd (omega arith)
+
+module _ (p n : ℕ) (points word : List ℕ) (size : ℕ) (Q : List ℕ) where
+  pub proposed : lowest (proposed-causes p n points word size Q) ≡ 0 → Proposed p n points word size Q
+  unfolding proposed-causes pair-causes long
+  proposed z =
+      let t = split (eqb (length points) n) (eqb (length word) n) (eqb (length Q) size) (under p points) (under p word) (under p Q) (distinct eqb points) z in
+      record { given = pair p n points n word (t .0); curve-long = eqb→eq (length Q) size (t .1); curve-under = t .2 }
+
+  pub proposed-named : T (named (proposed-causes p n points word size Q))
+  unfolding proposed-causes named
+  proposed-named = tt

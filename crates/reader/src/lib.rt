@@ -1,11 +1,27 @@
 // The public calls of document 01. Each tests its refusals in the table's order, and then asks the engine.
 ghost use mathlib.Core.Path.{_≡_};
-ghost use Rattle.rules.specs.Outcome.{encode-call};
-ghost use Rattle.reader.specs.Calls.{encoded};
+ghost use Rattle.rules.specs.Outcome.{encode-call, check-call, list-call, Finds};
+ghost use Rattle.setting.specs.Call.{asked};
+ghost use Rattle.reader.specs.Calls.{encoded, checked, finding, listing};
 
 mod refusals;
+mod sifting;
 pub mod tests;
+mod word;
 mod writing;
+
+// What the check answers: the refusal number or 0, and yes or no, which is no where it refuses.
+pub struct Checked {
+    pub refusal: u16,
+    pub yes: bool,
+}
+
+// What finding, listing and reading answer: the refusal number or 0, and the list length and the beginnings tried, which are 0 where they refuse.
+pub struct Outcome {
+    pub refusal: u16,
+    pub found: usize,
+    pub tried: usize,
+}
 
 // Writing a patch: the values of the message's polynomial at the points, n numbers at the front of the output. The answer is the refusal number, or 0.
 pub fn encode(
@@ -24,4 +40,130 @@ pub fn encode(
     }
     writing::write_patch(p as u16, points, message, &mut output[0..n]);
     0
+}
+
+// Whether the proposed curve passes for the word.
+pub fn check(
+    p: usize,
+    n: usize,
+    k: usize,
+    s: usize,
+    tau: usize,
+    points: &[u16],
+    word: &[u16],
+    curve: &[u16],
+) -> Checked
+    ensures { λ r. ⌜ checked (r .refusal) (r .yes) ≡ check-call (asked p n k s tau) (now (points .entry)) (now (word .entry)) (now (curve .entry)) ⌝ }
+{
+    let d = setting::derive(p, n, k, s, tau);
+    if d.refusal != 0 {
+        return Checked {
+            refusal: d.refusal,
+            yes: false,
+        };
+    }
+    let number = refusals::of_proposed(p, n, points, word, (d.l + 1) * d.w, curve);
+    if number != 0 {
+        return Checked {
+            refusal: number,
+            yes: false,
+        };
+    }
+    Checked {
+        refusal: 0,
+        yes: word::fits(p as u16, k, d.w, d.l, s as u16, points, word, curve),
+    }
+}
+
+// No list, and no beginnings.
+fn empty(number: u16) -> Outcome
+    ensures { λ r. ⌜ (r .refusal ≡ number) × (r .found ≡ 0) × (r .tried ≡ 0) ⌝ }
+{
+    Outcome {
+        refusal: number,
+        found: 0,
+        tried: 0,
+    }
+}
+
+// Writes a curve that passes for the word to the front of the curve buffer.
+pub fn find(
+    p: usize,
+    n: usize,
+    k: usize,
+    s: usize,
+    tau: usize,
+    points: &[u16],
+    word: &[u16],
+    curve: &mut [u16],
+    work: &mut [u16],
+) -> Outcome
+    ensures { λ r. ⌜ Finds (asked p n k s tau) (now (points .entry)) (now (word .entry)) (now (curve .entry)) (now (work .entry)) (finding (r .refusal) (r .found) (r .tried) (now (curve .exit)) (now (work .exit))) ⌝ }
+{
+    let d = setting::derive(p, n, k, s, tau);
+    if d.refusal != 0 {
+        return empty(d.refusal);
+    }
+    let size = (d.l + 1) * d.w;
+    let room = d.r;
+    let short = tests::either_short(curve.len(), size, work.len(), room);
+    let number = refusals::of_word(p, n, points, word, short);
+    if number != 0 {
+        return empty(number);
+    }
+    word::find(
+        p as u16,
+        k,
+        d.w,
+        d.l,
+        s as u16,
+        points,
+        word,
+        &mut curve[0..size],
+        &mut work[0..room],
+    );
+    empty(0)
+}
+
+// Listing from the proposed curve: every message that is a root of it and agrees with the word in at least n−τ places.
+pub fn list(
+    p: usize,
+    n: usize,
+    k: usize,
+    s: usize,
+    tau: usize,
+    points: &[u16],
+    word: &[u16],
+    curve: &[u16],
+    output: &mut [u16],
+    work: &mut [u16],
+) -> Outcome
+    ensures { λ r. ⌜ listing (r .refusal) (r .found) (r .tried) (now (output .exit)) (now (work .exit)) ≡ list-call (asked p n k s tau) (now (points .entry)) (now (word .entry)) (now (curve .entry)) (now (output .entry)) (now (work .entry)) ⌝ }
+{
+    let d = setting::derive(p, n, k, s, tau);
+    if d.refusal != 0 {
+        return empty(d.refusal);
+    }
+    let size = (d.l + 1) * d.w;
+    let room = d.r;
+    let short = tests::either_short(output.len(), d.l * k, work.len(), room);
+    let number = refusals::of_listing(p, n, points, word, size, curve, short);
+    if number != 0 {
+        return empty(number);
+    }
+    if !word::fits(p as u16, k, d.w, d.l, s as u16, points, word, curve) {
+        return empty(9);
+    }
+    word::list(
+        p as u16,
+        k,
+        d.w,
+        d.l,
+        s as u16,
+        points,
+        word,
+        curve,
+        output,
+        &mut work[0..room],
+    )
 }

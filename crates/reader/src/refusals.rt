@@ -1,7 +1,8 @@
 // The refusal numbers of the calls: the lowest that applies, and 0 where none does.
 ghost use mathlib.Core.Path.{_≡_};
-ghost use Rattle.rules.specs.Refusal.{lowest, encode-refusal};
-ghost use Rattle.reader.specs.Causes.{pair-causes};
+ghost use mathlib.Core.List.{[], _∷_, _++_};
+ghost use Rattle.rules.specs.Refusal.{_if_, lowest, encode-refusal};
+ghost use Rattle.reader.specs.Causes.{pair-causes, proposed-causes};
 use crate::tests;
 
 // 5 to 7 for n points and m symbols.
@@ -16,6 +17,71 @@ pub fn of_pair(p: usize, n: usize, points: &[u16], m: usize, symbols: &[u16]) ->
     }
     if !tests::all_distinct(points) {
         return 7;
+    }
+    0
+}
+
+// 5 to 8 for n points and as many symbols, where the rooms are too short or not.
+pub fn of_word(p: usize, n: usize, points: &[u16], word: &[u16], short: bool) -> u16
+    ensures { λ r. ⌜ r ≡ lowest (pair-causes p n (now (points .entry)) n (now (word .entry)) ++ (8 if short) ∷ []) ⌝ }
+{
+    let number = of_pair(p, n, points, n, word);
+    if number != 0 {
+        return number;
+    }
+    if short {
+        return 8;
+    }
+    0
+}
+
+// 5 to 7 for n points, as many symbols, and a proposed curve of that size.
+pub fn of_proposed(
+    p: usize,
+    n: usize,
+    points: &[u16],
+    word: &[u16],
+    size: usize,
+    curve: &[u16],
+) -> u16
+    ensures { λ r. ⌜ r ≡ lowest (proposed-causes p n (now (points .entry)) (now (word .entry)) size (now (curve .entry))) ⌝ }
+{
+    if !tests::both_long(n, points, n, word) {
+        return 5;
+    }
+    if curve.len() != size {
+        return 5;
+    }
+    if !tests::both_below(p, points, word) {
+        return 6;
+    }
+    if !tests::all_below(p, curve) {
+        return 6;
+    }
+    if !tests::all_distinct(points) {
+        return 7;
+    }
+    0
+}
+
+// 5 to 8 for these, where the rooms are too short or not.
+pub fn of_listing(
+    p: usize,
+    n: usize,
+    points: &[u16],
+    word: &[u16],
+    size: usize,
+    curve: &[u16],
+    short: bool,
+) -> u16
+    ensures { λ r. ⌜ r ≡ lowest (proposed-causes p n (now (points .entry)) (now (word .entry)) size (now (curve .entry)) ++ (8 if short) ∷ []) ⌝ }
+{
+    let number = of_proposed(p, n, points, word, size, curve);
+    if number != 0 {
+        return number;
+    }
+    if short {
+        return 8;
     }
     0
 }

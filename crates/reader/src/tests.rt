@@ -1,7 +1,7 @@
 // What the calls test of the slices that they take.
 ghost use mathlib.Core.Path.{_≡_};
-ghost use mathlib.Core.Bool.{not, _&&_};
-ghost use lib.Dec.{eqb};
+ghost use mathlib.Core.Bool.{not, _&&_, _||_};
+ghost use lib.Dec.{eqb, ltb};
 ghost use Rattle.rules.specs.Lists.{all, distinct};
 ghost use Rattle.rules.specs.Refusal.{long, under};
 
@@ -13,6 +13,26 @@ pub fn both_long(n: usize, these: &[u16], m: usize, those: &[u16]) -> bool
         return false;
     }
     those.len() == m
+}
+
+// Whether a is less than x or b less than y: of two rooms one is too short.
+pub fn either_short(a: usize, x: usize, b: usize, y: usize) -> bool
+    ensures { λ r. ⌜ r ≡ ltb a x || ltb b y ⌝ }
+{
+    if a < x {
+        return true;
+    }
+    b < y
+}
+
+// .. of three.
+pub fn any_short(a: usize, x: usize, b: usize, y: usize, c: usize, z: usize) -> bool
+    ensures { λ r. ⌜ r ≡ ltb a x || ltb b y || ltb c z ⌝ }
+{
+    if either_short(a, x, b, y) {
+        return true;
+    }
+    c < z
 }
 
 // Whether each of these and of those is below p.

@@ -1,0 +1,11 @@
+pub mod Slot
+pub mod Scan
+pub mod Sweep
+pub mod Seed
+pub mod Values
+pub mod Turn
+pub mod Keep
+pub mod Grow
+pub mod Triples
+pub mod Begin
+pub mod Finish

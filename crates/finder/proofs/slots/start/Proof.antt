@@ -1,0 +1,152 @@
+-- start: all is cleared, and the first j curves have their one.
+use mathlib.Core.Path.{_≡_, ap}
+use Prim.Native.Nat.{ℕ, _+_, _-_, _*_, _<_, _≤_}
+use lib.ListN.{length}
+use Rattle.buffers.proofs.Rows.{row-end, row-fits}
+use Rattle.buffers.proofs.Change.{changed-front}
+use Rattle.finder.specs.Slot.{slot, place}
+use Rattle.finder.proofs.Slot.{slot-small}
+use Rattle.finder.proofs.Sweep.{place-in}
+use Rattle.finder.proofs.Seed.{Seeded, cleared, seeded-none, seeded-more, seeded-started}
+use native.Mathlib.Omega.{arith}
+use borrow.Author.Needs.{needs}
+use Rattle.finder.proofs.slots.start.Statement.{statement}
+use Rattle.finder.proofs.slots.start.Tie as tie
+
+abbrev Inv-loop : tie.InvT-loop
+Inv-loop q k w l work₀ s e j₀ at₀ work j at = (j ≤ l + 1) × (at ≡ j * slot w l + place w j 0) × (s ≡ slot w l) × ((l + 1) * slot w l ≤ length work₀) × Seeded w l j work₀ work
+
+abbrev μ-loop : tie.MeasureT-loop
+μ-loop q k w l work₀ s e j₀ at₀ work j at = l + 1 - j
+
+room-requires : tie.Need-room-requires Inv-loop μ-loop
+room-requires c κs = search needs
+
+add-e : tie.Need-add-e Inv-loop μ-loop
+add-e c = search needs
+
+mul-e : tie.Need-mul-e Inv-loop μ-loop
+mul-e c = omega (arith, ap (λ (x : ℕ). (c .before .before .args .l + 1) * x) (c .room .ensures))
+
+sub-clear : tie.Need-sub-clear Inv-loop μ-loop
+sub-clear c = search needs
+
+part-clear-start : tie.Need-part-clear-start Inv-loop μ-loop
+part-clear-start c = search needs
+
+part-clear-end : tie.Need-part-clear-end Inv-loop μ-loop
+part-clear-end c = omega (arith, ap (λ (x : ℕ). (c .before .before .args .l + 1) * x) (c .room .ensures))
+
+clear-requires : tie.Need-clear-requires Inv-loop μ-loop
+clear-requires c κs = search needs
+
+loop-holds : tie.Need-loop-holds Inv-loop μ-loop
+loop-holds c =
+    let at-room = c .before .before .before .before in
+    let start = at-room .before .before in
+    let a = start .args in
+    let r = ap (λ (x : ℕ). (a .l + 1) * x) (at-room .room .ensures) in
+    let d = cleared ((a .l + 1) * at-room .room .result) (a .work .now) (c .before .before .clear .last .0) (omega arith) (c .before .before .clear .ensures) in
+    (search needs, search needs, at-room .room .ensures, omega (arith, d .len), seeded-none _ _ _)
+
+mul-work : tie.Need-mul-work Inv-loop μ-loop
+mul-work c =
+    let at-here = c .before .before .before .before .before .before .before .before in
+    let start = at-here in
+    let a = start .args in
+    let o = c .before .loop in
+    let b : o .at < length (o .work) = omega (arith, start .pre, o .inv .4 .len, place-in (a .w) (a .l) {t = o .j} {i = 0} (omega arith) (start .pre .0 .some), row-fits {t = o .j} {n = a .l + 1} (slot (a .w) (a .l)) (omega arith)) in
+    search needs
+
+slice-write-work : tie.Need-slice-write-work Inv-loop μ-loop
+slice-write-work c =
+    let at-here = c .before .before .before .before .before .before .before .before in
+    let start = at-here in
+    let a = start .args in
+    let o = c .before .loop in
+    let b : o .at < length (o .work) = omega (arith, start .pre, o .inv .4 .len, place-in (a .w) (a .l) {t = o .j} {i = 0} (omega arith) (start .pre .0 .some), row-fits {t = o .j} {n = a .l + 1} (slot (a .w) (a .l)) (omega arith)) in
+    b
+
+add-at : tie.Need-add-at Inv-loop μ-loop
+add-at c =
+    let at-here = c .before .before .before .before .before .before .before .before in
+    let start = at-here in
+    let a = start .args in
+    let o = c .before .loop in
+    let b : o .at < length (o .work) = omega (arith, start .pre, o .inv .4 .len, place-in (a .w) (a .l) {t = o .j} {i = 0} (omega arith) (start .pre .0 .some), row-fits {t = o .j} {n = a .l + 1} (slot (a .w) (a .l)) (omega arith)) in
+    omega (arith, slot-small (start .pre .0))
+
+add-at-2 : tie.Need-add-at-2 Inv-loop μ-loop
+add-at-2 c =
+    let at-here = c .before .before .before .before .before .before .before .before in
+    let start = at-here in
+    let a = start .args in
+    let o = c .before .loop in
+    let b : o .at < length (o .work) = omega (arith, start .pre, o .inv .4 .len, place-in (a .w) (a .l) {t = o .j} {i = 0} (omega arith) (start .pre .0 .some), row-fits {t = o .j} {n = a .l + 1} (slot (a .w) (a .l)) (omega arith)) in
+    omega (arith, slot-small (start .pre .0))
+
+add-j : tie.Need-add-j Inv-loop μ-loop
+add-j c = search needs
+
+loop-less : tie.Need-loop-less Inv-loop μ-loop
+loop-less c = search needs
+
+loop-again : tie.Need-loop-again Inv-loop μ-loop
+loop-again c =
+    let at-here = c .before .before .before .before .before .before .before .before in
+    let start = at-here in
+    let a = start .args in
+    let o = c .before .loop in
+    let b : o .at < length (o .work) = omega (arith, start .pre, o .inv .4 .len, place-in (a .w) (a .l) {t = o .j} {i = 0} (omega arith) (start .pre .0 .some), row-fits {t = o .j} {n = a .l + 1} (slot (a .w) (a .l)) (omega arith)) in (
+      search needs,
+      omega (arith, row-end (o .j) (slot (a .w) (a .l)), row-end (o .j) (a .w)),
+      o .inv .2,
+      o .inv .3,
+      seeded-more _ _ _ (o .at) (start .pre .0 .some) (omega arith) (o .inv .4) (o .inv .1) (omega (arith, o .inv .4 .len)),
+    )
+
+same-length : tie.Need-same-length Inv-loop μ-loop
+same-length c =
+    let at-clear = c .before .before .before .before in
+    let at-room = at-clear .before .before in
+    let start = at-room .before .before in
+    let a = start .args in
+    let r = ap (λ (x : ℕ). (a .l + 1) * x) (at-room .room .ensures) in
+    let d = cleared ((a .l + 1) * at-room .room .result) (a .work .now) (at-clear .clear .last .0) (omega arith) (at-clear .clear .ensures) in
+    omega (arith, d .len, c .before .loop .inv .4 .len)
+
+returns : tie.Need-returns Inv-loop μ-loop
+returns c =
+    let at-clear = c .before .before .before .before in
+    let at-room = at-clear .before .before in
+    let start = at-room .before .before in
+    let a = start .args in
+    let o = c .before .loop in
+    let r = ap (λ (x : ℕ). (a .l + 1) * x) (at-room .room .ensures) in
+    let d = cleared ((a .l + 1) * at-room .room .result) (a .work .now) (at-clear .clear .last .0) (omega arith) (at-clear .clear .ensures) in
+    let z : o .j ≡ a .l + 1 = omega arith in
+    seeded-started _ _ _ (rw z at (o .inv .4)) (λ m u. changed-front d m (omega arith))
+
+pub start-spec : {M : Type 1} → statement M
+start-spec =
+    tie.close
+    (tie.spec
+    Inv-loop
+    μ-loop
+    room-requires
+    add-e
+    mul-e
+    sub-clear
+    part-clear-start
+    part-clear-end
+    clear-requires
+    loop-holds
+    mul-work
+    slice-write-work
+    add-at
+    add-at-2
+    add-j
+    loop-less
+    loop-again
+    same-length
+    returns)

@@ -1,0 +1,79 @@
+-- How the messages kept grow message by message.
+use mathlib.Core.Path.{_≡_, refl, sym, ap, _∙_}
+use mathlib.Core.Bool.{Bool, true, false, cond}
+use mathlib.Core.List.{List, [], _∷_, _++_, flatten, append-nil}
+use Prim.Native.Nat.{ℕ, suc, _+_, _-_, _*_, _≤_}
+use native.Mathlib.Numerals.{add-one}
+use native.Mathlib.Omega.{arith}
+use lib.Dec.{leb}
+use lib.ListN.{length, take, drop, length-append, length-drop}
+use lib.Seq.{length-take-le}
+use borrow.Rule.Slice.PartMut.{putMid}
+use Rattle.rules.specs.Lists.{keep}
+use Rattle.rules.specs.Field.{ops}
+use Rattle.rules.specs.Code.{score, sifted}
+use Rattle.rules.specs.Search.{rows}
+use Rattle.rules.specs.Outcome.{over}
+use Rattle.algebra.proofs.Search.{keep-append}
+use Rattle.curve.specs.Triples.{tripled}
+use Rattle.reader.specs.Sift.{enough, Sifted}
+use Rattle.reader.proofs.Runs.{Long, keep-long, flat-length, flat-append, rows-long, rows-more, over-more}
+
+-- at most one more is kept
+pub at-most : (b : Bool) (n : ℕ) → cond b (n + 1) n ≤ n + 1
+at-most true n = omega arith
+at-most false n = omega arith
+
+-- the part of n numbers from a on, with the end as the code has it
+pub run-is : (a n : ℕ) (xs : List ℕ) → take (a + n - a) (drop a xs) ≡ take n (drop a xs)
+run-is a n xs = let e : a + n - a ≡ n = omega arith in ap (λ (k : ℕ). take k (drop a xs)) e
+
+pub run-long : (a n : ℕ) (xs : List ℕ) → a + n ≤ length xs → length (take (a + n - a) (drop a xs)) ≡ n
+run-long a n xs l = ap length (run-is a n xs) ∙ length-take-le n (drop a xs) (simp length-drop (omega arith))
+
+pub put-is : (a n : ℕ) (d f : List ℕ) → putMid a (a + n - a) d f ≡ putMid a n d f
+put-is a n d f = let e : a + n - a ≡ n = omega arith in ap (λ (k : ℕ). putMid a k d f) e
+
+module _ (q k m : ℕ) (points word times found output : List ℕ) where
+  abbrev kept-of : ℕ → List (List ℕ)
+  kept-of i = enough q k m points word times i found
+
+  -- the message at place i, and whether it scores enough
+  abbrev message : ℕ → List ℕ
+  message i = take k (drop (i * k) found)
+
+  abbrev scores : List ℕ → Bool
+  scores f = leb m (score (ops q) (tripled points word times) f)
+
+  pub sift-none : Sifted q k m points word times 0 found output output 0
+  unfolding sifted keep rows over flatten
+  sift-none = record { number = refl; written = refl }
+
+  kept-more : (i : ℕ) → kept-of (i + 1) ≡ kept-of i ++ cond (scores (message i)) (message i ∷ []) []
+  unfolding sifted keep
+  kept-more i = ap kept-of (add-one i) ∙ ap (keep scores) (rows-more k i found) ∙ keep-append scores (rows k i found) (message i ∷ [])
+
+  kept-long : (i : ℕ) → i * k ≤ length found → Long k (kept-of i)
+  unfolding sifted
+  kept-long i l = keep-long k scores (rows k i found) (rows-long k i found l)
+
+  pub sift-more : (i kept : ℕ) (f : List ℕ) {d e : List ℕ} {kept′ : ℕ} → Sifted q k m points word times i found output d kept → f ≡ message i → length f ≡ k → i * k ≤ length found
+      → kept′ ≡ cond (scores f) (kept + 1) kept → e ≡ cond (scores f) (putMid (kept * length f) (length f) d f) d → Sifted q k m points word times (i + 1) found output e kept′
+  sift-more i kept f {d} {e} {kept′} h is long fits n w =
+      let more = kept-more i ∙ ap (λ g. kept-of i ++ cond (scores g) (g ∷ []) []) (sym is) in
+      let r = go (scores f) n w in
+      record { number = r .0 ∙ ap length (sym more); written = r .1 ∙ ap (λ fs. over (flatten fs) output) (sym more) }
+    where
+      size : length (flatten (kept-of i)) ≡ kept * length f
+      size = flat-length k (kept-of i) (kept-long i fits) ∙ rw (← h .number, long) refl
+
+      one : flatten (kept-of i ++ (f ∷ [])) ≡ flatten (kept-of i) ++ f
+      one = flat-append (kept-of i) (f ∷ []) ∙ ap (_++_ (flatten (kept-of i))) (unfold flatten in append-nil f)
+
+      go : (b : Bool) → kept′ ≡ cond b (kept + 1) kept → e ≡ cond b (putMid (kept * length f) (length f) d f) d
+          → (kept′ ≡ length (kept-of i ++ cond b (f ∷ []) [])) × (e ≡ over (flatten (kept-of i ++ cond b (f ∷ []) [])) output)
+      go true n w = (
+        n ∙ omega (arith, length-append (kept-of i) (f ∷ []), h .number),
+        w ∙ ap (λ xs. putMid (kept * length f) (length f) xs f) (h .written) ∙ over-more (flatten (kept-of i)) f output size refl ∙ ap (λ xs. over xs output) (sym one),
+      )
+      go false n w = (n ∙ h .number ∙ ap length (sym (append-nil (kept-of i))), w ∙ h .written ∙ ap (λ fs. over (flatten fs) output) (sym (append-nil (kept-of i))))

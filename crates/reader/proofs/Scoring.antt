@@ -1,0 +1,55 @@
+-- When a message meets a triple, and how a score over slices goes on place by place.
+use mathlib.Core.Path.{_≡_, refl, sym, ap, _∙_}
+use mathlib.Core.Bool.{Bool, true, false, cond}
+use mathlib.Core.List.{List, [], _∷_}
+use Prim.Native.Nat.{ℕ, zero, suc, _+_, _%_, _<_, _≤_}
+use native.Mathlib.Nat.{mod-eq-of-lt}
+use native.Mathlib.Numerals.{add-one}
+use native.Mathlib.Omega.{arith}
+use lib.Dec.{T, ltb, ltb→lt}
+use lib.ListN.{length, getD, drop, drop-of-length-le}
+use lib.Seq.{drop-cons}
+use borrow.Author.Tests.{eq-eqb, ne-eqb}
+use Rattle.rules.specs.Lists.{all, sum}
+use Rattle.rules.specs.Field.{ops, alike, modulus}
+use Rattle.rules.specs.Code.{Triple, eval, meets, score}
+use Rattle.rules.specs.Refusal.{under}
+use Rattle.rules.proofs.Tests.{both}
+use Rattle.prime.proofs.Below.{modulus-two, plus-below}
+use Rattle.curve.specs.Triples.{tripled}
+use Rattle.curve.proofs.Triples.{triple-at}
+
+pub under-at : (q : ℕ) (xs : List ℕ) → T (under q xs) → (j : ℕ) → j < length xs → getD xs j 0 < q
+unfolding under all
+under-at q [] t j l = absurd (omega arith)
+under-at q (x ∷ xs) t zero l = ltb→lt x q (both (ltb x q) (under q xs) t .0)
+under-at q (x ∷ xs) t (suc j) l = under-at q xs (both (ltb x q) (under q xs) t .1) j (omega arith)
+
+module _ (q : ℕ) (m : T (modulus q)) where
+  eval-below : (f : List ℕ) (x : ℕ) → eval (ops q) f x < q
+  unfolding eval
+  eval-below [] x = omega (arith, modulus-two q m)
+  eval-below (c ∷ f) x = plus-below q m _ _
+
+  module _ (f : List ℕ) (z : Triple ℕ) where
+    pub meets-it : eval (ops q) f (z .point) ≡ z .symbol → meets (ops q) f z ≡ true
+    unfolding meets alike
+    meets-it e = eq-eqb _ _ (ap (λ (x : ℕ). x % q) e)
+
+    pub misses-it : z .symbol < q → ¬ (eval (ops q) f (z .point) ≡ z .symbol) → meets (ops q) f z ≡ false
+    unfolding meets alike
+    misses-it l h = ne-eqb _ _ (λ e. h (sym (mod-eq-of-lt (eval-below f (z .point))) ∙ e ∙ mod-eq-of-lt l))
+
+module _ (q : ℕ) (points word times f : List ℕ) where
+  -- the score from place j on
+  abbrev pub behind : ℕ → ℕ
+  behind j = score (ops q) (tripled (drop j points) (drop j word) (drop j times)) f
+
+  pub behind-more : (j : ℕ) → length word ≡ length points → length times ≡ length points → j < length points →
+      behind j ≡ cond (meets (ops q) f (triple-at points word times j)) (getD times j 0) 0 + behind (j + 1)
+  unfolding score tripled sum
+  behind-more j u v l = rw (add-one, drop-cons points j 0 l, drop-cons word j 0 (omega arith), drop-cons times j 0 (omega arith)) refl
+
+  pub behind-none : (j : ℕ) → length points ≤ j → behind j ≡ 0
+  unfolding score tripled sum
+  behind-none j l = rw (drop-of-length-le points l) refl

@@ -1,0 +1,90 @@
+-- score: what is added up, and the score from place j on, are the whole score.
+use mathlib.Core.Path.{_≡_, refl, sym, ap, _∙_}
+use Prim.Native.Nat.{ℕ, _+_, _-_, _*_, _≤_}
+use lib.ListN.{length}
+use Rattle.rules.specs.Field.{ops}
+use Rattle.rules.specs.Code.{score}
+use Rattle.curve.specs.Triples.{tripled}
+use Rattle.reader.proofs.Scoring.{under-at, behind, behind-more, behind-none}
+use native.Mathlib.Omega.{arith}
+use borrow.Author.Needs.{needs}
+use Rattle.reader.proofs.sifting.score.Statement.{statement}
+use Rattle.reader.proofs.sifting.score.Tie as tie
+
+abbrev Inv-loop : tie.InvT-loop
+Inv-loop q message points word times sum₀ j₀ sum j =
+    (j ≤ length points) × (sum ≤ 4 * j) × (sum + behind q points word times message j ≡ score (ops q) (tripled points word times) message)
+
+abbrev μ-loop : tie.MeasureT-loop
+μ-loop q message points word times sum₀ j₀ sum j = length points - j
+
+loop-holds : tie.Need-loop-holds Inv-loop μ-loop
+loop-holds c = (search needs, search needs, omega arith)
+
+mul-share : tie.Need-mul-share Inv-loop μ-loop
+mul-share c = search needs
+
+shared-slice-read-share : tie.Need-shared-slice-read-share Inv-loop μ-loop
+shared-slice-read-share c = search needs
+
+mul-share-2 : tie.Need-mul-share-2 Inv-loop μ-loop
+mul-share-2 c = search needs
+
+shared-slice-read-share-2 : tie.Need-shared-slice-read-share-2 Inv-loop μ-loop
+shared-slice-read-share-2 c = search needs
+
+mul-share-3 : tie.Need-mul-share-3 Inv-loop μ-loop
+mul-share-3 c = search needs
+
+shared-slice-read-share-3 : tie.Need-shared-slice-read-share-3 Inv-loop μ-loop
+shared-slice-read-share-3 c = search needs
+
+share-requires : tie.Need-share-requires Inv-loop μ-loop
+share-requires c κs =
+    let x = c .before .before .before .before .before .before .before .before .before .args in
+    (c .before .before .before .before .before .before .before .before .before .pre .field, under-at (x .q) (x .word .now) (c .before .before .before .before .before .before .before .before .before .pre .small) (c .before .before .before .before .loop .j) (omega (arith, c .before .before .before .before .before .before .before .before .before .pre .symbols)))
+
+add-sum : tie.Need-add-sum Inv-loop μ-loop
+add-sum c = omega (arith, c .share .ensures .1, c .before .before .before .before .before .before .before .before .before .before .pre .few (c .before .before .before .before .before .loop .j) (omega (arith, c .before .before .before .before .before .before .before .before .before .before .pre .multiplicities)), c .before .before .before .before .before .loop .inv .1, c .before .before .before .before .before .before .before .before .before .before .pre .places)
+
+add-j : tie.Need-add-j Inv-loop μ-loop
+add-j c = search needs
+
+loop-less : tie.Need-loop-less Inv-loop μ-loop
+loop-less c = search needs
+
+loop-again : tie.Need-loop-again Inv-loop μ-loop
+loop-again c =
+    let x = c .before .before .before .before .before .before .before .before .before .before .args in
+    let l = c .before .before .before .before .before .loop in
+    let h = c .before .before .before .before .before .before .before .before .before .before .pre in (
+      search needs,
+      omega (arith, c .share .ensures .1, h .few (l .j) (omega (arith, h .multiplicities)), l .inv .1),
+      omega (arith, l .inv .2, c .share .ensures .0, behind-more (x .q) (x .points .now) (x .word .now) (x .times .now) (x .message .now) (l .j) (h .symbols) (h .multiplicities) (omega arith)),
+    )
+
+returns : tie.Need-returns Inv-loop μ-loop
+returns c =
+    let x = c .before .before .before .before .before .before .args in
+    let l = c .before .loop in
+    omega (arith, l .inv .2, behind-none (x .q) (x .points .now) (x .word .now) (x .times .now) (x .message .now) (l .j) (omega arith))
+
+pub score-spec : {M : Type 1} → statement M
+score-spec =
+    tie.close
+    (tie.spec
+    Inv-loop
+    μ-loop
+    loop-holds
+    mul-share
+    shared-slice-read-share
+    mul-share-2
+    shared-slice-read-share-2
+    mul-share-3
+    shared-slice-read-share-3
+    share-requires
+    add-sum
+    add-j
+    loop-less
+    loop-again
+    returns)

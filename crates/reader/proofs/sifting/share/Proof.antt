@@ -1,0 +1,23 @@
+-- share: symbols below q are the same where they are equal.
+use mathlib.Core.Path.{refl, sym, _∙_}
+use Rattle.reader.proofs.Scoring.{meets-it, misses-it}
+use native.Mathlib.Omega.{arith}
+use borrow.Author.Needs.{needs}
+use Rattle.reader.proofs.sifting.share.Statement.{statement}
+use Rattle.reader.proofs.sifting.share.Tie as tie
+
+eval-requires : tie.Need-eval-requires
+eval-requires c κs = search needs
+
+returns : tie.Need-returns
+returns c =
+    let x = c .before .before .before .args in
+    (simp (meets-it (x .q) (c .before .before .before .pre .0) (x .message .now) (record { point = x .point; symbol = x .symbol; times = x .m }) (sym (c .before .eval .ensures) ∙ c .if1 .taken)), omega arith)
+
+returns-2 : tie.Need-returns-2
+returns-2 c =
+    let x = c .before .before .before .args in
+    (simp (misses-it (x .q) (c .before .before .before .pre .0) (x .message .now) (record { point = x .point; symbol = x .symbol; times = x .m }) (c .before .before .before .pre .1) (λ e. c .if1 .left (c .before .eval .ensures ∙ e))), omega arith)
+
+pub share-spec : {M : Type 1} → statement M
+share-spec = tie.close (tie.spec eval-requires returns returns-2)

@@ -1,0 +1,32 @@
+-- fits: the array of 64 multiplicities s, cut to the word's length, makes the word's triples.
+use mathlib.Core.Path.{ap, _∙_}
+use Rattle.rules.specs.Field.{ops}
+use Rattle.rules.specs.Curve.{passes}
+use Rattle.reader.proofs.Times.{times-triples, checkable}
+use borrow.Author.Needs.{needs}
+use Rattle.reader.proofs.word.fits.Statement.{statement}
+use Rattle.reader.proofs.word.fits.Tie as tie
+
+sub-passes : tie.Need-sub-passes
+sub-passes c = search needs
+
+part-passes-start : tie.Need-part-passes-start
+part-passes-start c = search needs
+
+part-passes-end : tie.Need-part-passes-end
+part-passes-end c = search needs
+
+passes-requires : tie.Need-passes-requires
+passes-requires c κs =
+    let h = c .before .before .before .before .before .pre in
+    (checkable (h .0) _ (h .1), h .2)
+
+returns : tie.Need-returns
+returns c =
+    let x = c .before .before .before .before .before .before .args in
+    c .passes .ensures
+    ∙ ap (λ zs. passes (ops (x .q)) (x .k) (x .w) (x .l) zs (x .curve .now)) (times-triples (c .before .before .before .before .before .before .pre .0))
+
+pub fits-spec : {M : Type 1} → statement M
+fits-spec =
+    tie.close (tie.spec sub-passes part-passes-start part-passes-end passes-requires returns)

@@ -1,0 +1,10 @@
+pub mod Heads
+pub mod Next
+pub mod Nexted
+pub mod Numbers
+pub mod Roots
+pub mod Start
+pub mod Stepping
+pub mod Turn
+pub mod Turning
+pub mod Walked

@@ -1,0 +1,49 @@
+-- next: the slot is copied to the spare, stepped there, and stripped into the slot after it.
+use mathlib.Core.Logic.{inr}
+use Rattle.search.proofs.Nexted.{nexted}
+use native.Mathlib.Omega.{arith}
+use borrow.Author.Needs.{needs}
+use Rattle.search.proofs.slot.next.Statement.{statement}
+use Rattle.search.proofs.slot.next.Tie as tie
+
+add-s : tie.Need-add-s
+add-s c = search needs
+
+mul-s : tie.Need-mul-s
+mul-s c = search needs
+
+copy-within-requires : tie.Need-copy-within-requires
+copy-within-requires c κs = (inr (omega arith), omega arith, omega arith)
+
+substitute-requires : tie.Need-substitute-requires
+substitute-requires c κs = let x = c .before .before .before .before .before .before .args in
+    let p = c .before .before .before .before .before .before .pre in
+    let k = c .before .before .before .copy-within .ensures in
+    (p .0, p .1, omega (arith, k .len), λ j l. rw (k .new j l) (p .6 j l))
+
+add-strip : tie.Need-add-strip
+add-strip c = search needs
+
+strip-requires : tie.Need-strip-requires
+strip-requires c κs = search needs
+
+same-length : tie.Need-same-length
+same-length c = search needs
+
+returns : tie.Need-returns
+returns c = let x = c .before .before .before .before .before .before .before .before .before .before .before .before .before .args in
+    let p = c .before .before .before .before .before .before .before .before .before .before .before .before .before .pre in
+    nexted (x .q) (p .0) (x .g) (p .1) (x .w) (x .l) (x .a) (p .2) _ _ _ _ (p .4) (p .5) (p .6) (c .before .before .before .before .before .before .before .before .before .before .copy-within .ensures) (c .before .before .before .before .before .before .substitute .ensures) (c .before .before .strip .ensures)
+
+pub next-spec : {M : Type 1} → statement M
+next-spec =
+    tie.close
+    (tie.spec
+    add-s
+    mul-s
+    copy-within-requires
+    substitute-requires
+    add-strip
+    strip-requires
+    same-length
+    returns)

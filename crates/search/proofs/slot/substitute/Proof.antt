@@ -1,0 +1,54 @@
+-- substitute: the rows from u on hold the step of the rows from u on of the curve.
+use mathlib.Core.Path.{_≡_}
+use Prim.Native.Nat.{suc, _-_, _≤_}
+use Rattle.buffers.proofs.Rows.{row-end}
+use Rattle.search.proofs.Stepping.{Stepping, stepping-none, stepping-more, stepping-to, stepped}
+use native.Mathlib.Omega.{arith}
+use borrow.Author.Needs.{needs}
+use Rattle.search.proofs.slot.substitute.Statement.{statement}
+use Rattle.search.proofs.slot.substitute.Tie as tie
+
+abbrev Inv-loop : tie.InvT-loop
+Inv-loop q g w l work₀ u₀ work u = (u ≤ l) × Stepping q g w l u work₀ work
+
+abbrev μ-loop : tie.MeasureT-loop
+μ-loop q g w l work₀ u₀ work u = u
+
+loop-holds : tie.Need-loop-holds Inv-loop μ-loop
+loop-holds c = let x = c .before .args in let p = c .before .pre in (search needs, stepping-none (x .q) (p .0) (x .g) (p .1) (x .w) (x .l) (x .work .now) (p .3))
+
+sub-u : tie.Need-sub-u Inv-loop μ-loop
+sub-u c = search needs
+
+turn-requires : tie.Need-turn-requires Inv-loop μ-loop
+turn-requires c κs = let x = c .before .before .before .before .args in (c .before .before .before .before .pre .0, omega arith, omega (arith, c .before .before .loop .inv .1 .len, row-end (x .l) (x .w)))
+
+loop-less : tie.Need-loop-less Inv-loop μ-loop
+loop-less c = search needs
+
+loop-again : tie.Need-loop-again Inv-loop μ-loop
+loop-again c = let l = c .before .before .before .before .before .loop in
+    let x = c .before .before .before .before .before .before .before .args in
+    let p = c .before .before .before .before .before .before .before .pre in
+    let f : l .u ≡ suc (l .u - 1) = omega arith in
+    (search needs, stepping-more (x .q) (p .0) (x .g) (p .1) (x .w) (x .l) (x .work .now) (p .3) (l .u - 1) (omega arith) (stepping-to (l .inv .1) f) (c .before .before .turn .ensures))
+
+same-length : tie.Need-same-length Inv-loop μ-loop
+same-length c = search needs
+
+returns : tie.Need-returns Inv-loop μ-loop
+returns c = stepped (stepping-to (c .before .loop .inv .1) (omega arith))
+
+pub substitute-spec : {M : Type 1} → statement M
+substitute-spec =
+    tie.close
+    (tie.spec
+    Inv-loop
+    μ-loop
+    loop-holds
+    sub-u
+    turn-requires
+    loop-less
+    loop-again
+    same-length
+    returns)

@@ -1,0 +1,41 @@
+-- turn: what the two calls change, put together.
+use mathlib.Core.Logic.{inr}
+use Rattle.buffers.proofs.Rows.{row-fits}
+use Rattle.search.proofs.Turning.{turned}
+use native.Mathlib.Omega.{arith}
+use borrow.Author.Needs.{needs}
+use Rattle.search.proofs.slot.turn.Statement.{statement}
+use Rattle.search.proofs.slot.turn.Tie as tie
+
+mul-row : tie.Need-mul-row
+mul-row c = omega (arith, row-fits (c .before .args .w) (c .before .pre .1))
+
+add-add-within : tie.Need-add-add-within
+add-add-within c = omega (arith, row-fits (c .before .before .args .w) (c .before .before .pre .1))
+
+add-within-requires : tie.Need-add-within-requires
+add-within-requires c κs = (c .before .before .pre .0, inr (omega arith), omega (arith, row-fits (c .before .before .args .w) (c .before .before .pre .1)), omega (arith, row-fits (c .before .before .args .w) (c .before .before .pre .1)))
+
+add-carry : tie.Need-add-carry
+add-carry c = search needs
+
+carry-requires : tie.Need-carry-requires
+carry-requires c κs = search needs
+
+same-length : tie.Need-same-length
+same-length c = search needs
+
+returns : tie.Need-returns
+returns c = turned (c .before .before .before .before .before .before .before .before .before .args .l) (c .before .before .before .before .before .before .before .before .before .pre .1) (c .before .before .before .before .before .before .add-within .ensures) (c .before .before .carry .ensures)
+
+pub turn-spec : {M : Type 1} → statement M
+turn-spec =
+    tie.close
+    (tie.spec
+    mul-row
+    add-add-within
+    add-within-requires
+    add-carry
+    carry-requires
+    same-length
+    returns)
