@@ -49,6 +49,18 @@ module _ {short : Bool} (a x b y : ℕ) (is : short ≡ ltb a x || ltb b y) wher
   pub short-is : {x′ y′ : ℕ} → x ≡ x′ → y ≡ y′ → short ≡ ltb a x′ || ltb b y′
   short-is f g = rw (← f, ← g) is
 
+-- .. and so of three
+module _ {short : Bool} (a x b y c z : ℕ) (is : short ≡ ltb a x || ltb b y || ltb c z) where
+  pub all-granted : (bs : List Cause) → T (named bs) → lowest (bs ++ (8 if short) ∷ []) ≡ 0 → Granted bs a x b y × (z ≤ c)
+  all-granted bs t n =
+      let parts = none-parts bs ((8 if short) ∷ []) t n in
+      let long = neither (ltb a x || ltb b y) (ltb c z) (sym is ∙ none-first 8 short [] (parts .1) (λ q. omega arith) .0) in
+      let two = neither (ltb a x) (ltb b y) (long .0) in
+      (record { none = parts .0; first = ltb-false a x (two .0); second = ltb-false b y (two .1) }, ltb-false c z (long .1))
+
+  pub all-short-is : {x′ y′ z′ : ℕ} → x ≡ x′ → y ≡ y′ → z ≡ z′ → short ≡ ltb a x′ || ltb b y′ || ltb c z′
+  all-short-is f g h = rw (← f, ← g, ← h) is
+
 module _ (S : Setting) (points word curve work : List ℕ) where
   pub setting-refuses-find : {r : ℕ} → r ≡ setting-refusal S → ¬ (r ≡ 0) → r ≡ find-refusal S points word (length curve) (length work)
   unfolding setting-refusal find-refusal

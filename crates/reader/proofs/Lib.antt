@@ -14,4 +14,5 @@ mod Runs
 mod Kept
 mod Listing
 mod Listed
+mod Allowed
 pub mod Unique

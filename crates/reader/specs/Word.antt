@@ -57,3 +57,11 @@ pub record Listed (q k w l s : ℕ) (points word curve output work output′ wor
   pub tried : r .tried ≡ beginnings (ops q) k (rows w (l + 1) curve)
   pub written : output′ ≡ over (flatten (scoring-roots q k w l s points word curve)) output
   pub cleared : work′ ≡ replicate (length work) 0
+
+-- a word of symbols, and room for finding and for listing
+pub record Readable (q k w l s : ℕ) (points word output curve work : List ℕ) : Type 0 where
+  pub findable : Findable q k w l s points word curve work
+  pub symbols : T (under q word)
+  pub slots : (k + 2) * ((l + 1) * w) ≤ length work
+  pub list : l * k ≤ 1536
+  pub room : l * k ≤ length output

@@ -1,8 +1,8 @@
 // The public calls of document 01. Each tests its refusals in the table's order, and then asks the engine.
 ghost use mathlib.Core.Path.{_≡_};
-ghost use Rattle.rules.specs.Outcome.{encode-call, check-call, list-call, Finds};
+ghost use Rattle.rules.specs.Outcome.{encode-call, check-call, list-call, Finds, Reads};
 ghost use Rattle.setting.specs.Call.{asked};
-ghost use Rattle.reader.specs.Calls.{encoded, checked, finding, listing};
+ghost use Rattle.reader.specs.Calls.{encoded, checked, finding, listing, reading};
 
 mod refusals;
 mod sifting;
@@ -164,6 +164,46 @@ pub fn list(
         word,
         curve,
         output,
+        &mut work[0..room],
+    )
+}
+
+// Reading: finding, then listing. The curve buffer's front holds the curve used.
+pub fn read(
+    p: usize,
+    n: usize,
+    k: usize,
+    s: usize,
+    tau: usize,
+    points: &[u16],
+    word: &[u16],
+    output: &mut [u16],
+    curve: &mut [u16],
+    work: &mut [u16],
+) -> Outcome
+    ensures { λ r. ⌜ Reads (asked p n k s tau) (now (points .entry)) (now (word .entry)) (now (output .entry)) (now (curve .entry)) (now (work .entry)) (reading (r .refusal) (r .found) (r .tried) (now (output .exit)) (now (curve .exit)) (now (work .exit))) ⌝ }
+{
+    let d = setting::derive(p, n, k, s, tau);
+    if d.refusal != 0 {
+        return empty(d.refusal);
+    }
+    let size = (d.l + 1) * d.w;
+    let room = d.r;
+    let short = tests::any_short(output.len(), d.l * k, curve.len(), size, work.len(), room);
+    let number = refusals::of_word(p, n, points, word, short);
+    if number != 0 {
+        return empty(number);
+    }
+    word::read(
+        p as u16,
+        k,
+        d.w,
+        d.l,
+        s as u16,
+        points,
+        word,
+        output,
+        &mut curve[0..size],
         &mut work[0..room],
     )
 }

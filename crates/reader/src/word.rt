@@ -7,7 +7,7 @@ ghost use Rattle.rules.specs.Field.{ops};
 ghost use Rattle.rules.specs.Code.{triples};
 ghost use Rattle.rules.specs.Curve.{passes};
 ghost use Rattle.rules.specs.Refusal.{under};
-ghost use Rattle.reader.specs.Word.{Worded, Findable, Passed, Listable, Listed};
+ghost use Rattle.reader.specs.Word.{Worded, Findable, Passed, Listable, Listed, Readable};
 use crate::Outcome;
 use crate::sifting::sift;
 use field::runs::clear;
@@ -90,4 +90,24 @@ pub fn list(
         found,
         tried: tally.tried,
     }
+}
+
+// Finding, then listing.
+pub fn read(
+    q: u16,
+    k: usize,
+    w: usize,
+    l: usize,
+    s: u16,
+    points: &[u16],
+    word: &[u16],
+    output: &mut [u16],
+    curve: &mut [u16],
+    work: &mut [u16],
+) -> Outcome
+    requires { ⌜ Readable q k w l s (now points) (now word) (now output) (now curve) (now work) ⌝ }
+    ensures { λ r. ⌜ Passed q k w l s (now (points .entry)) (now (word .entry)) (now (curve .exit)) (now (work .entry)) (now (work .exit)) × Listed q k w l s (now (points .entry)) (now (word .entry)) (now (curve .exit)) (now (output .entry)) (now (work .entry)) (now (output .exit)) (now (work .exit)) r ⌝ }
+{
+    find(q, k, w, l, s, points, word, curve, work);
+    list(q, k, w, l, s, points, word, curve, output, work)
 }
