@@ -1,4 +1,3 @@
 pub mod Holding
 pub mod Did
 pub mod Heard
-pub mod Stub

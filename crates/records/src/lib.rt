@@ -10,7 +10,6 @@ ghost use Rattle.records.specs.Did.{Did, told-turn};
 
 mod points;
 mod settings;
-mod stub;
 mod words;
 
 // "Kind 1: p, n, k, s, τ"

@@ -55,7 +55,7 @@ fn read_held(
     let n = s.n as usize;
     let held: &[u16] = points;
     let heard: &[u16] = word;
-    let reading = crate::stub::read(
+    let reading = reader::read(
         s.p as usize,
         n,
         s.k as usize,

@@ -37,7 +37,7 @@ slice-aggregate-read-4 : tie.Need-slice-aggregate-read-4
 slice-aggregate-read-4 c = search needs
 
 read-requires : tie.Need-read-requires
-read-requires c κs = ?
+read-requires c κs = search needs
 
 cast-t28 : tie.Need-cast-t28
 cast-t28 c = let x = c .before .before .before .before .before .before .before .before .before .before .before .before .before .before .before .before in let K = kept (setting-of (x .args .s)) (take (x .args .s .n) (x .args .points .now)) (x .pre .0) in let r = c .before .before .before .read in let f = found-few _ _ _ K _ _ _ _ (r .ensures) (omega (arith, c .before .before .before .before .before .before .read-arg3 .given)) (length-replicate {A = ℕ} 6400 0) (length-replicate {A = ℕ} 24000 0) in search (needs, c .before .before .before .before .before .before .read-arg3 .given)
