@@ -1,24 +1,27 @@
-use mathlib.Core.Path.{ap}
-use Prim.Native.Nat.{_-_, _^_, _<_, _≤_}
+use mathlib.Core.Path.{sym, subst}
+use Prim.Native.Nat.{_-_, _^_, _<_}
+use lib.Dec.{T}
+use Rattle.records.specs.Holding.{held-of, possible}
 use native.Mathlib.Omega.{arith}
 use borrow.Author.Needs.{needs}
 use Rattle.patch.proofs.main.Statement.{statement}
 use Rattle.patch.proofs.main.Tie as tie
 
 abbrev Inv-loop : tie.InvT-loop
-Inv-loop held₀ i₀ held i = (i < 2 ^ 64) × (held .setting .n ≤ 64)
+Inv-loop held₀ number₀ held number = (number < 2 ^ 64) × T (possible (held-of held))
 
 abbrev μ-loop : tie.MeasureT-loop
-μ-loop held₀ i₀ held i = 2 ^ 64 - i
+μ-loop held₀ number₀ held number = 2 ^ 64 - number
 
 start-requires : tie.Need-start-requires Inv-loop μ-loop
 start-requires c κs = search needs
 
 loop-holds : tie.Need-loop-holds Inv-loop μ-loop
-loop-holds c = (omega arith, omega (arith, ap (λ h. h .setting .n) (c .start .ensures)))
+unfolding possible
+loop-holds c = (omega arith, subst (λ h. T (possible h)) (sym (c .start .ensures)) tt)
 
-add-i : tie.Need-add-i Inv-loop μ-loop
-add-i c = search needs
+add-number : tie.Need-add-number Inv-loop μ-loop
+add-number c = search needs
 
 turn-requires : tie.Need-turn-requires Inv-loop μ-loop
 turn-requires c κs = search needs
@@ -43,7 +46,7 @@ main-spec =
     μ-loop
     start-requires
     loop-holds
-    add-i
+    add-number
     turn-requires
     returns
     loop-less

@@ -21,13 +21,13 @@ slice-aggregate-step-2 : tie.Need-slice-aggregate-step-2
 slice-aggregate-step-2 c = search needs
 
 step-requires : tie.Need-step-requires
-step-requires c κs = search needs
+step-requires c κs = (c .before .before .before .before .before .pre, omega (arith, length-take-le (c .before .before .before .read-record .result) (c .before .before .before .read-record .last .0) (omega arith)), search needs)
 
 array-share-prefix-out : tie.Need-array-share-prefix-out
 array-share-prefix-out c = search needs
 
 slice-aggregate-write-all : tie.Need-slice-aggregate-write-all
-slice-aggregate-write-all c = sym (length-take-le (c .before .before .step .result .wrote) (c .before .before .step .last .1 .1 .1 .0) (omega arith))
+slice-aggregate-write-all c = let s = c .before .before .step in sym (length-take-le (s .result .wrote) (s .last .1 .1 .1 .0) (omega (arith, s .ensures .1 .within)))
 
 write-all-requires : tie.Need-write-all-requires
 write-all-requires c κs = search needs
