@@ -8,7 +8,7 @@ use borrow.Author.Tests.{ne-eqb}
 use Rattle.rules.specs.Field.{ops}
 use Rattle.rules.specs.Code.{triples}
 use Rattle.rules.specs.Curve.{passes}
-use Rattle.rules.specs.Setting.{Setting, W, ℓ, curve-length}
+use Rattle.rules.specs.Setting.{Setting, curve-length}
 use Rattle.rules.specs.Refusal.{lowest, setting-causes, setting-refusal, curve-causes, fits, check-refusal}
 use Rattle.rules.specs.Outcome.{check-call}
 use Rattle.setting.specs.Accepted.{Taken}

@@ -15,4 +15,5 @@ mod Kept
 mod Listing
 mod Listed
 mod Allowed
+pub mod Readings
 pub mod Unique

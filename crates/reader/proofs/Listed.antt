@@ -1,13 +1,12 @@
 -- When listing refuses and with which number, and what it answers.
 use mathlib.Core.Path.{_≡_, refl, sym, ap, _∙_}
 use mathlib.Core.Bool.{Bool, true, false, not, _||_}
-use mathlib.Core.List.{List, [], _∷_, _++_, flatten, append-assoc}
+use mathlib.Core.List.{List, [], _∷_, _++_, flatten}
 use Prim.Native.Nat.{ℕ, _+_, _*_}
 use lib.Dec.{T, ltb}
 use lib.ListN.{length}
 use borrow.Author.Tests.{ne-eqb}
 use Rattle.rules.specs.Field.{ops}
-use Rattle.rules.specs.Code.{triples}
 use Rattle.rules.specs.Search.{rows, beginnings, listed}
 use Rattle.rules.specs.Setting.{Setting, W, ℓ, curve-length, R}
 use Rattle.rules.specs.Refusal.{_if_, lowest, setting-causes, setting-refusal, curve-causes, fits, list-refusal}

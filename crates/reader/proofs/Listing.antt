@@ -1,24 +1,23 @@
 -- What listing asks of the search and of sifting, and what it then leaves.
-use mathlib.Core.Path.{_≡_, refl, sym, ap, ap₂, _∙_}
+use mathlib.Core.Path.{_≡_, ap₂}
 use mathlib.Core.Bool.{not, _&&_}
-use mathlib.Core.List.{List, flatten}
-use Prim.Native.Nat.{ℕ, _+_, _*_, _<_, _≤_}
+use mathlib.Core.List.{List}
+use Prim.Native.Nat.{ℕ, _+_, _*_, _≤_}
 use native.Mathlib.Nat.{mul-le-mul-right}
 use native.Mathlib.Omega.{arith}
 use lib.Dec.{T}
-use lib.ListN.{length, drop}
+use lib.ListN.{length}
 use Rattle.rules.specs.Lists.{all}
 use Rattle.rules.specs.Field.{ops}
 use Rattle.rules.specs.Code.{triples, zeros, messages, sifted}
 use Rattle.rules.specs.Curve.{weighted, through, passes}
-use Rattle.rules.specs.Search.{rows, roots, listed}
+use Rattle.rules.specs.Search.{roots, listed}
 use Rattle.rules.specs.Outcome.{over}
 use Rattle.rules.proofs.Tests.{both}
 use Rattle.algebra.proofs.Complete.{messages-long}
 use Rattle.search.specs.Search.{Asked, Roots, roots-of, none}
 use Rattle.search.specs.declared.Tally.{Tally}
-use Rattle.curve.specs.Triples.{tripled}
-use Rattle.reader.specs.Word.{Worded, Listable, scoring-roots}
+use Rattle.reader.specs.Word.{Listable, scoring-roots}
 use Rattle.reader.specs.Sift.{Scorable, enough}
 use Rattle.reader.proofs.Times.{times, times-triples, times-long, times-small}
 use Rattle.reader.proofs.Scoring.{under-at}

@@ -1,7 +1,7 @@
 -- What scoring and sifting need, and what sifting leaves.
 use mathlib.Core.Path.{_≡_}
 use mathlib.Core.List.{List, flatten}
-use Prim.Native.Nat.{ℕ, _*_, _<_, _≤_}
+use Prim.Native.Nat.{ℕ, _<_, _≤_}
 use lib.Dec.{T}
 use lib.ListN.{length, getD}
 use Rattle.rules.specs.Field.{ops, modulus}

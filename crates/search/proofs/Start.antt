@@ -82,7 +82,7 @@ module _ (q : ℕ) (m : T (modulus q)) (k w l : ℕ) (c : List ℕ) (o : 0 < w) 
         rw (roots-values q m k Q) (rw (length-map (roots F k (map (map e) Q)) (map value))
         (rw (map-rows e w (l + 1) c) (roots-few F (laws q m h) w l (map e c) o (length-map c e ∙ long) live-elts k s)))
 
-    bound : beginnings (ops q) k Q ≤ 1 + l * k
+    pub bound : beginnings (ops q) k Q ≤ 1 + l * k
     bound =
         rw (beginnings-hom (ops q) F e (elt-hom q m h) k Q)
         (rw (map-rows e w (l + 1) c) (beginnings-few F (laws q m h) w l (map e c) o (length-map c e ∙ long) live-elts k))

@@ -138,6 +138,34 @@ fn run(q: u16, k: usize, w: usize, l: usize, work: &mut [u16], roots: &mut [u16]
     visit(h, k, s, work, &mut begun, roots, t)
 }
 
+// The same with the tally lent: one tally is carried along any number of searches.
+fn tally_into(
+    t: &mut Tally,
+    q: u16,
+    k: usize,
+    w: usize,
+    l: usize,
+    work: &mut [u16],
+    roots: &mut [u16],
+)
+    requires { ⌜ Asked q k w l (spare w l (now work)) (now work) (now roots) (now t) ⌝ }
+    ensures { λ _. ⌜ Given q k w l (spare w l (now (work .entry))) (now (work .entry)) (now (roots .entry)) (now (t .entry)) (now (work .exit)) (now (roots .exit)) (now (t .exit)) ⌝ }
+{
+    let r = run(q, k, w, l, work, roots, *t);
+    t.found = r.found;
+    t.tried = r.tried;
+}
+
+// The same for a caller that has counted nothing: the tally is made here, and lent.
+fn count(q: u16, k: usize, w: usize, l: usize, work: &mut [u16], roots: &mut [u16]) -> Tally
+    requires { ⌜ Asked q k w l (spare w l (now work)) (now work) (now roots) none ⌝ }
+    ensures { λ r. ⌜ Given q k w l (spare w l (now (work .entry))) (now (work .entry)) (now (roots .entry)) none (now (work .exit)) (now (roots .exit)) r ⌝ }
+{
+    let mut t = Tally { found: 0, tried: 0 };
+    tally_into(&mut t, q, k, w, l, work, roots);
+    t
+}
+
 // Every root of the curve, in order, into roots, and the beginnings tried.
 pub fn search(
     q: u16,
@@ -153,5 +181,5 @@ pub fn search(
 {
     let s = (l + 1) * w;
     copy(curve, &mut work[0..s]);
-    run(q, k, w, l, work, roots, Tally { found: 0, tried: 0 })
+    count(q, k, w, l, work, roots)
 }

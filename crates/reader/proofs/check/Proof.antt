@@ -1,8 +1,7 @@
 -- check: the setting's refusal decides, then that of the slices, and then whether the curve passes.
-use mathlib.Core.Path.{_≡_, sym, _∙_}
+use mathlib.Core.Path.{sym, _∙_}
 use Rattle.prime.proofs.Below.{modulus-small}
 use Rattle.setting.specs.Call.{asked}
-use Rattle.setting.specs.Accepted.{Taken}
 use Rattle.setting.proofs.Taken.{refusal-is, taken}
 use Rattle.reader.proofs.Pair.{proposed}
 use Rattle.reader.proofs.Shape.{worded, size-is}

@@ -27,8 +27,8 @@ part-copy-end c = search needs
 copy-requires : tie.Need-copy-requires
 copy-requires c κs = search needs
 
-run-requires : tie.Need-run-requires
-run-requires c κs = let x = c .before .before .before .before .before .before .before .before .before .args in
+count-requires : tie.Need-count-requires
+count-requires c κs = let x = c .before .before .before .before .before .before .before .before .before .args in
     let p = c .before .before .before .before .before .before .before .before .before .pre in
     let S = (x .l + 1) * x .w in
     let f = copied-front S (S - 0) (x .work .now) (c .before .before .before .before .copy .last .1 .0) (x .curve .now) (omega arith) (omega (arith, p .slots, add-mul (x .k) 2 S)) (p .long) (c .before .before .before .before .copy .ensures) in
@@ -47,7 +47,7 @@ returns c = let x = c .before .before .before .before .before .before .before .b
     let S = (x .l + 1) * x .w in
     let f = copied-front S (S - 0) (x .work .now) (c .before .before .before .before .before .before .before .before .before .copy .last .1 .0) (x .curve .now) (omega arith) (omega (arith, p .slots, add-mul (x .k) 2 S)) (p .long) (c .before .before .before .before .before .before .before .before .before .copy .ensures) in
     let a = asked-spare (x .q) (x .k) (x .w) (x .l) (x .curve .now) (x .work .now) (putMid 0 (S - 0) (x .work .now) (c .before .before .before .before .before .before .before .before .before .copy .last .1 .0)) (x .roots .now) none p (f .0) (f .1) in
-    roots-front (x .q) (x .k) (x .w) (x .l) (x .curve .now) (x .work .now) (putMid 0 (S - 0) (x .work .now) (c .before .before .before .before .before .before .before .before .before .copy .last .1 .0)) (x .roots .now) _ _ _ p (f .0) (rw (a .0) at (c .before .before .before .before .run .ensures))
+    roots-front (x .q) (x .k) (x .w) (x .l) (x .curve .now) (x .work .now) (putMid 0 (S - 0) (x .work .now) (c .before .before .before .before .before .before .before .before .before .copy .last .1 .0)) (x .roots .now) _ _ _ p (f .0) (rw (a .0) at (c .before .before .before .before .count .ensures))
 
 pub search-spec : {M : Type 1} → statement M
 search-spec =
@@ -59,7 +59,7 @@ search-spec =
     part-copy-start
     part-copy-end
     copy-requires
-    run-requires
+    count-requires
     same-length
     same-length-2
     returns)

@@ -6,7 +6,6 @@ use lib.ListN.{length}
 use borrow.Author.Tests.{le-leb, lt-leb}
 use borrow.Rule.Slice.PartMut.{putMid}
 use Rattle.reader.proofs.Kept.{put-is}
-use native.Mathlib.Omega.{arith}
 use borrow.Author.Needs.{needs}
 use Rattle.reader.proofs.sifting.keep.Statement.{statement}
 use Rattle.reader.proofs.sifting.keep.Tie as tie

@@ -1,6 +1,6 @@
 -- score: what is added up, and the score from place j on, are the whole score.
-use mathlib.Core.Path.{_≡_, refl, sym, ap, _∙_}
-use Prim.Native.Nat.{ℕ, _+_, _-_, _*_, _≤_}
+use mathlib.Core.Path.{_≡_}
+use Prim.Native.Nat.{_+_, _-_, _*_, _≤_}
 use lib.ListN.{length}
 use Rattle.rules.specs.Field.{ops}
 use Rattle.rules.specs.Code.{score}

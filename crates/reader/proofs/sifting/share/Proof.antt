@@ -1,5 +1,5 @@
 -- share: symbols below q are the same where they are equal.
-use mathlib.Core.Path.{refl, sym, _∙_}
+use mathlib.Core.Path.{sym, _∙_}
 use Rattle.reader.proofs.Scoring.{meets-it, misses-it}
 use native.Mathlib.Omega.{arith}
 use borrow.Author.Needs.{needs}

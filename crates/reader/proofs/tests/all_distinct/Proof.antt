@@ -1,6 +1,6 @@
 -- `reader::tests::all_distinct` meets its contract: what is passed is none of those behind it, so that the test is that of the rest.
 use Prim.Native.Nat.{_+_, _-_}
-use mathlib.Core.Path.{_≡_, refl, sym, ap, _∙_}
+use mathlib.Core.Path.{_≡_, refl, _∙_}
 use lib.Dec.{eqb}
 use lib.ListN.{length, drop}
 use borrow.Author.Tests.{not-true, not-false}

@@ -7,7 +7,6 @@ use Rattle.rules.specs.Field.{ops}
 use Rattle.rules.specs.Curve.{passes}
 use Rattle.reader.proofs.Times.{times-triples, checkable, conditions-are}
 use Rattle.reader.proofs.Front.{all-clear}
-use native.Mathlib.Omega.{arith}
 use borrow.Author.Needs.{needs}
 use Rattle.reader.proofs.word.find.Statement.{statement}
 use Rattle.reader.proofs.word.find.Tie as tie

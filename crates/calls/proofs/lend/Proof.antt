@@ -1,0 +1,27 @@
+-- A part of an array is as long as it is cut.
+use mathlib.Core.Path.{sym}
+use lib.Seq.{length-take-le}
+use native.Mathlib.Omega.{arith}
+use borrow.Author.Needs.{needs}
+use Rattle.calls.proofs.lend.Statement.{statement}
+use Rattle.calls.proofs.lend.Tie as tie
+
+slice-aggregate-run : tie.Need-slice-aggregate-run
+slice-aggregate-run c = sym (length-take-le (c .before .before .before .before .args .c .n) (c .before .before .before .before .args .points .now) (omega arith))
+
+slice-aggregate-run-2 : tie.Need-slice-aggregate-run-2
+slice-aggregate-run-2 c = sym (length-take-le (c .before .before .before .before .before .args .c .n) (c .before .before .before .before .before .args .word .now) (omega arith))
+
+slice-aggregate-run-3 : tie.Need-slice-aggregate-run-3
+slice-aggregate-run-3 c = sym (length-take-le (c .before .before .before .before .before .before .args .c .long) (c .before .before .before .before .before .before .args .curve .now) (omega arith))
+
+run-requires : tie.Need-run-requires
+run-requires c κs = search needs
+
+returns : tie.Need-returns
+returns c = search needs
+
+pub lend-spec : {M : Type 1} → statement M
+lend-spec =
+    tie.close
+    (tie.spec slice-aggregate-run slice-aggregate-run-2 slice-aggregate-run-3 run-requires returns)

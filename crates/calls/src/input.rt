@@ -1,0 +1,24 @@
+// Two-byte numbers from standard input.
+ghost use Prim.Native.Nat.{_≤_};
+ghost use lib.ListN.{length};
+
+// The number of two bytes, the low one first.
+fn joined(low: u8, high: u8) -> u16 {
+    low as u16 + 256 * (high as u16)
+}
+
+// The next number; where the input has ended, 0.
+fn next() -> u16 {
+    let mut bytes = [0u8; 2];
+    io::read_full(0, &mut bytes);
+    joined(bytes[0], bytes[1])
+}
+
+// The next numbers, as many as out holds.
+pub fn take(out: &mut [u16]) {
+    let mut i: usize = 0;
+    while i < out.len() {
+        out[i] = next();
+        i += 1;
+    }
+}

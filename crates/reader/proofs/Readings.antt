@@ -1,0 +1,148 @@
+-- Demands 2 and 3 of the calls: an accepted listing or reading gives every message that agrees with the word in at least n−τ places, in order, and tries at most 1 + ℓ·k beginnings.
+use mathlib.Core.Path.{_≡_, refl, sym, ap, _∙_}
+use mathlib.Core.Bool.{Bool, true, false, cond, not, _&&_, _||_}
+use mathlib.Core.List.{List, [], flatten}
+use Prim.Native.Nat.{ℕ, _+_, _-_, _*_, _≤_}
+use native.Mathlib.Omega.{arith}
+use lib.Dec.{T, eqb, ltb, eqb→eq}
+use lib.ListN.{length}
+use borrow.Author.Tests.{eqb-true, not-false}
+use Rattle.rules.specs.Lists.{all}
+use Rattle.rules.specs.Field.{ops}
+use Rattle.rules.specs.Code.{triples, zeros, readings}
+use Rattle.rules.specs.Curve.{weighted, through, passes}
+use Rattle.rules.specs.Setting.{Setting, W, ℓ, curve-length, R}
+use Rattle.rules.specs.Refusal.{setting-causes, setting-refusal, word-causes, curve-causes, long, under, fits, list-refusal, read-refusal}
+use Rattle.rules.specs.Outcome.{Listing, Reading, over, cleared, used, usable, list-of, tried-of, list-call, read-call, Reads}
+use Rattle.rules.proofs.Tests.{both}
+use Rattle.demands.proofs.Listing.{list-readings}
+use Rattle.search.proofs.Start.{bound}
+use Rattle.setting.specs.Accepted.{Accepted}
+use Rattle.setting.proofs.Accepted.{accepted}
+use Rattle.reader.specs.Causes.{pair-causes, proposed-causes}
+use Rattle.reader.proofs.Lowest.{none-first, none-parts}
+use Rattle.reader.proofs.Pair.{Pair, pair, pair-named, proposed, proposed-named}
+use Rattle.reader.proofs.Scoring.{under-at}
+use Rattle.reader.proofs.Checking.{setting-named}
+
+-- the list and its length are those of demand 2, and the beginnings are as few as demand 3 says
+pub record Answer (S : Setting) (points word : List ℕ) (found tried : ℕ) (output output′ : List ℕ) : Type 0 where
+  pub list : found ≡ length (readings (ops (S .p)) (S .k) (S .n - S .τ) points word)
+  pub written : output′ ≡ over (flatten (readings (ops (S .p)) (S .k) (S .n - S .τ) points word)) output
+  pub few : tried ≤ 1 + ℓ S * S .k
+
+module _ (S : Setting) (points word Q : List ℕ) where
+  -- an accepted setting, a word with its points, and a curve of symbols that passes for it
+  pub record Fit : Type 0 where
+    pub setting : Accepted S
+    pub given : Pair (S .p) (S .n) points (S .n) word
+    pub whole : length Q ≡ curve-length S
+    pub small : T (under (S .p) Q)
+    pub passing : T (fits S points word Q)
+
+  module _ (f : Fit) where
+    fit-readings : list-of S points word Q ≡ readings (ops (S .p)) (S .k) (S .n - S .τ) points word
+    fit-readings = list-readings S points word Q (f .setting .passed .prime) (omega (arith, f .setting .passed .ranged .code .k-least)) (f .setting .passed .ranged .s-least)
+        (unfold under in f .given .points-under) (f .given .apart) (f .passing)
+
+    live : T (not (zeros (ops (S .p)) Q))
+    unfolding fits passes
+    live =
+        let t = both (not (zeros (ops (S .p)) Q) && weighted (ops (S .p)) (S .k) (W S) (ℓ S) Q) (all (through (ops (S .p)) (W S) (ℓ S) Q) (triples (S .s) points word)) (f .passing) in
+        both (not (zeros (ops (S .p)) Q)) (weighted (ops (S .p)) (S .k) (W S) (ℓ S) Q) (t .0) .0
+
+    fit-tried : tried-of S Q ≤ 1 + ℓ S * S .k
+    unfolding tried-of curve-length
+    fit-tried =
+        bound (S .p) (f .setting .passed .prime) (S .k) (W S) (ℓ S) Q (omega (arith, f .setting .W-least, f .setting .passed .ranged .code .k-least)) (f .whole)
+        (λ j l. under-at (S .p) Q (f .small) j (omega (arith, f .whole))) live
+
+    answer : (output : List ℕ) → Answer S points word (length (list-of S points word Q)) (tried-of S Q) output (over (flatten (list-of S points word Q)) output)
+    answer output = record { list = ap length fit-readings; written = ap (λ fs. over (flatten fs) output) fit-readings; few = fit-tried }
+
+-- the refusal of an outcome that is chosen by its number
+module _ {A : Type 0} (refusal : A → ℕ) (number : ℕ) (o r : A) (is-0 : refusal o ≡ 0) (is : refusal r ≡ number) where
+  number-is : refusal (cond (eqb number 0) o r) ≡ number
+  number-is = go (eqb number 0) refl
+    where
+      go : (b : Bool) → eqb number 0 ≡ b → refusal (cond b o r) ≡ number
+      go true t = is-0 ∙ sym (eqb-true number 0 t)
+      go false t = is
+
+module _ (S : Setting) (points word Q output work : List ℕ) where
+  list-number : list-call S points word Q output work .refusal ≡ list-refusal S points word Q (length output) (length work)
+  unfolding list-call
+  list-number = number-is (λ (o : Listing). o .refusal) (list-refusal S points word Q (length output) (length work)) _ _ refl refl
+
+  list-fit : list-refusal S points word Q (length output) (length work) ≡ 0 → Fit S points word Q
+  unfolding list-refusal curve-causes proposed-causes
+  list-fit z =
+      let first = none-parts (setting-causes S) _ (setting-named S) z in
+      let second = none-parts (proposed-causes (S .p) (S .n) points word (curve-length S) Q) _ (proposed-named (S .p) (S .n) points word (curve-length S) Q) (first .1) in
+      let rooms = none-first 8 (ltb (length output) (ℓ S * S .k) || ltb (length work) (R S)) _ (second .1) (λ e. omega arith) in
+      let last = none-first 9 (not (fits S points word Q)) [] (rooms .1) (λ e. omega arith) in
+      let g = proposed (S .p) (S .n) points word (curve-length S) Q (second .0) in
+      record {
+        setting = accepted S (unfold setting-refusal in first .0);
+        given = g .given;
+        whole = g .curve-long;
+        small = g .curve-under;
+        passing = rw (not-false (fits S points word Q) (last .0)) tt;
+      }
+
+  pub list-reads : (o : Listing) → o ≡ list-call S points word Q output work → o .refusal ≡ 0 → Answer S points word (o .found) (o .tried) output (o .output)
+  list-reads o e z = rw (e ∙ accepted-is) (answer S points word Q (list-fit none) output)
+    where
+      none : list-refusal S points word Q (length output) (length work) ≡ 0
+      none = sym list-number ∙ ap (λ (o : Listing). o .refusal) (sym e) ∙ z
+
+      accepted-is : list-call S points word Q output work ≡ record {
+        refusal = 0;
+        found = length (list-of S points word Q);
+        tried = tried-of S Q;
+        output = over (flatten (list-of S points word Q)) output;
+        work = cleared (R S) work;
+      }
+      accepted-is = unfold list-call in rw none refl
+
+module _ (S : Setting) (points word output curve work : List ℕ) where
+  abbrev refusal : ℕ
+  refusal = read-refusal S points word (length output) (length curve) (length work)
+
+  read-number : (Q : List ℕ) → read-call S points word output curve work Q .refusal ≡ refusal
+  unfolding read-call
+  read-number Q = number-is (λ (o : Reading). o .refusal) refusal _ _ refl refl
+
+  read-fit : refusal ≡ 0 → (Q : List ℕ) → T (usable S points word Q) → Fit S points word Q
+  unfolding read-refusal word-causes pair-causes usable long
+  read-fit z Q u =
+      let first = none-parts (setting-causes S) _ (setting-named S) z in
+      let second = none-parts (pair-causes (S .p) (S .n) points (S .n) word) _ (pair-named (S .p) (S .n) points (S .n) word) (first .1) in
+      let t = both (eqb (length Q) (curve-length S) && under (S .p) Q) (fits S points word Q) u in
+      let t2 = both (eqb (length Q) (curve-length S)) (under (S .p) Q) (t .0) in
+      record {
+        setting = accepted S (unfold setting-refusal in first .0);
+        given = pair (S .p) (S .n) points (S .n) word (second .0);
+        whole = eqb→eq (length Q) (curve-length S) (t2 .0);
+        small = t2 .1;
+        passing = t .1;
+      }
+
+  pub read-reads : (o : Reading) → Reads S points word output curve work o → o .refusal ≡ 0 → Answer S points word (o .found) (o .tried) output (o .output)
+  read-reads o h z = rw (h .rest ∙ accepted-is) (answer S points word Q (read-fit none Q (h .passes z)) output)
+    where
+      Q : List ℕ
+      Q = used S (o .curve)
+
+      none : refusal ≡ 0
+      none = sym (read-number Q) ∙ ap (λ (o : Reading). o .refusal) (sym (h .rest)) ∙ z
+
+      accepted-is : read-call S points word output curve work Q ≡ record {
+        refusal = 0;
+        found = length (list-of S points word Q);
+        tried = tried-of S Q;
+        output = over (flatten (list-of S points word Q)) output;
+        curve = over Q curve;
+        work = cleared (R S) work;
+      }
+      accepted-is = unfold read-call in rw none refl
