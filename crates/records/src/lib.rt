@@ -1,6 +1,5 @@
 // Records of a patch file: what is held from one to the next, and what is printed for each.
 ghost use mathlib.Core.Path.{_≡_};
-ghost use mathlib.Core.Bool.{true};
 ghost use Prim.Native.Nat.{_≤_};
 ghost use lib.Dec.{T};
 ghost use lib.ListN.{length, take};

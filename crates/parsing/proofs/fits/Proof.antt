@@ -1,3 +1,4 @@
+-- fits: the three tests, in their order.
 use mathlib.Core.Path.{refl}
 use Rattle.parsing.proofs.Shape.{too-short, too-long, even-fits}
 use Rattle.parsing.proofs.fits.Statement.{statement}

@@ -1,3 +1,4 @@
+-- pair: number j has the bytes 2·j and 2·j + 1.
 use mathlib.Core.Path.{_∙_}
 use Rattle.parsing.proofs.Pairs.{pair-at}
 use borrow.Author.Needs.{needs}
@@ -20,7 +21,9 @@ joined-requires : tie.Need-joined-requires
 joined-requires c κs = search needs
 
 returns : tie.Need-returns
-returns c = c .joined .ensures ∙ pair-at (c .before .before .before .before .args .bytes .now) (c .before .before .before .before .args .j) (c .before .before .before .before .pre)
+returns c =
+    let at-start = c .before .before .before .before in
+    c .joined .ensures ∙ pair-at (at-start .args .bytes .now) (at-start .args .j) (at-start .pre)
 
 pub pair-spec : {M : Type 1} → statement M
 pair-spec =

@@ -1,3 +1,4 @@
+-- read_body: after i numbers the first i of the body stand in front.
 use mathlib.Core.Path.{_≡_, refl, ap, _∙_}
 use Prim.Native.Nat.{_-_, _≤_}
 use lib.ListN.{take}
@@ -40,10 +41,13 @@ loop-less : tie.Need-loop-less Inv-loop μ-loop
 loop-less c = search needs
 
 loop-again : tie.Need-loop-again Inv-loop μ-loop
-loop-again c = let l = c .before .before .loop in let b = c .before .before .before .before .args .bytes .now in (
-  omega arith,
-  body-more b (c .before .before .before .before .args .out .now) _ (l .i) (c .pair .result) (l .inv .1) (omega (arith, body-count b)) (c .pair .ensures),
-)
+loop-again c =
+    let at-loop = c .before .before in
+    let at-start = at-loop .before .before in
+    let l = at-loop .loop in let b = at-start .args .bytes .now in (
+      omega arith,
+      body-more b (at-start .args .out .now) _ (l .i) (c .pair .result) (l .inv .1) (omega (arith, body-count b)) (c .pair .ensures),
+    )
 
 returns : tie.Need-returns Inv-loop μ-loop
 returns c = let l = c .before .loop in let b = c .before .before .before .args .bytes .now in record {

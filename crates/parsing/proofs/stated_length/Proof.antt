@@ -1,3 +1,4 @@
+-- stated_length: the first number, or 0 where it is not there.
 use Rattle.parsing.proofs.Shape.{none-stated, stated}
 use borrow.Author.Needs.{needs}
 use Rattle.parsing.proofs.stated_length.Statement.{statement}

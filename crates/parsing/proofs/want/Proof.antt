@@ -1,3 +1,4 @@
+-- want: a record has as many bytes more as its length says, where that fits.
 use mathlib.Core.Path.{sym, _∙_}
 use Rattle.parsing.proofs.Shape.{size-fits, size-unfit, fits-bounds}
 use native.Mathlib.Omega.{arith}

@@ -1,3 +1,4 @@
+-- main: the count of records ends the loop at the latest.
 use mathlib.Core.Path.{sym, subst}
 use Prim.Native.Nat.{_-_, _^_, _<_}
 use lib.Dec.{T}

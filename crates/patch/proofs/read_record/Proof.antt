@@ -1,3 +1,4 @@
+-- read_record: a record has at most 132 bytes.
 use mathlib.Core.Path.{sym}
 use lib.Seq.{length-take-le}
 use native.Mathlib.Omega.{arith}

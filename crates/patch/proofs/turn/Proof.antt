@@ -1,3 +1,4 @@
+-- turn: what is written has room, and what is held stays possible.
 use mathlib.Core.Path.{sym}
 use lib.Seq.{length-take-le}
 use native.Mathlib.Omega.{arith}
@@ -21,13 +22,18 @@ slice-aggregate-step-2 : tie.Need-slice-aggregate-step-2
 slice-aggregate-step-2 c = search needs
 
 step-requires : tie.Need-step-requires
-step-requires c κs = (c .before .before .before .before .before .pre, omega (arith, length-take-le (c .before .before .before .read-record .result) (c .before .before .before .read-record .last .0) (omega arith)), search needs)
+step-requires c κs =
+    let at-read-record = c .before .before .before in
+    let at-start = at-read-record .before .before in
+    (at-start .pre, omega (arith, length-take-le (at-read-record .read-record .result) (at-read-record .read-record .last .0) (omega arith)), search needs)
 
 array-share-prefix-out : tie.Need-array-share-prefix-out
 array-share-prefix-out c = search needs
 
 slice-aggregate-write-all : tie.Need-slice-aggregate-write-all
-slice-aggregate-write-all c = let s = c .before .before .step in sym (length-take-le (s .result .wrote) (s .last .1 .1 .1 .0) (omega (arith, s .ensures .1 .within)))
+slice-aggregate-write-all c =
+    let at-step = c .before .before in
+    let s = at-step .step in sym (length-take-le (s .result .wrote) (s .last .1 .1 .1 .0) (omega (arith, s .ensures .1 .within)))
 
 write-all-requires : tie.Need-write-all-requires
 write-all-requires c κs = search needs

@@ -1,3 +1,4 @@
+-- step: the end of the input and refusal 10 first, and then by the kind.
 use mathlib.Core.Path.{refl, sym, _∙_}
 use Rattle.rules.specs.Patch.{kind}
 use Rattle.parsing.proofs.Shape.{whole-long, whole-five}
@@ -21,7 +22,9 @@ use Rattle.records.proofs.step.Statement.{statement}
 use Rattle.records.proofs.step.Tie as tie
 
 returns : tie.Need-returns
-returns c = stepped (record { held = refl; text = wrote-none _ _; more = refl; within = omega arith }) (c .before .before .before .pre .0) (turn-end (c .before .before .before .args .number) (held-of (c .before .before .before .args .held)) (c .before .before .before .args .bytes .now) (c .if1 .taken))
+returns c =
+    let at-start = c .before .before .before in
+    stepped (record { held = refl; text = wrote-none _ _; more = refl; within = omega arith }) (at-start .pre .0) (turn-end (at-start .args .number) (held-of (at-start .args .held)) (at-start .args .bytes .now) (c .if1 .taken))
 
 is-broken-requires : tie.Need-is-broken-requires
 is-broken-requires c κs = search needs
@@ -33,38 +36,86 @@ same-length : tie.Need-same-length
 same-length c = search needs
 
 returns-2 : tie.Need-returns-2
-returns-2 c = stepped (c .before .before .told .ensures) (c .before .before .before .before .before .before .before .before .before .pre .0) (turn-broken _ _ _ (c .before .before .before .before .before .before .if1 .left) (sym (c .before .before .before .before .before .is-broken .ensures) ∙ c .before .before .before .before .if2 .taken))
+returns-2 c =
+    let at-told = c .before .before in
+    let at-if2 = at-told .before .before in
+    let at-is-broken = at-if2 .before in
+    let at-if1 = at-is-broken .before in
+    let at-start = at-if1 .before .before .before in
+    stepped (at-told .told .ensures) (at-start .pre .0) (turn-broken _ _ _ (at-if1 .if1 .left) (sym (at-is-broken .is-broken .ensures) ∙ at-if2 .if2 .taken))
 
 pair-requires : tie.Need-pair-requires
-pair-requires c κs = let w = whole-long (c .before .before .before .before .before .args .bytes .now) (sym (c .before .is-broken .ensures) ∙ c .if2 .left) in omega arith
+pair-requires c κs =
+    let at-start = c .before .before .before .before .before in
+    let w = whole-long (at-start .args .bytes .now) (sym (c .before .is-broken .ensures) ∙ c .if2 .left) in omega arith
 
 take-setting-requires : tie.Need-take-setting-requires
 unfolding kind
-take-setting-requires c κs = let w = whole-long (c .before .before .before .before .before .before .before .before .args .bytes .now) (sym (c .before .before .before .before .is-broken .ensures) ∙ c .before .before .before .if2 .left) in let f = whole-five (c .before .before .before .before .before .before .before .before .args .bytes .now) (sym (c .before .before .before .before .is-broken .ensures) ∙ c .before .before .before .if2 .left) (sym (c .before .before .pair .ensures) ∙ c .before .if3 .taken) in (omega arith, search needs)
+take-setting-requires c κs =
+    let at-pair = c .before .before in
+    let at-if2 = at-pair .before in
+    let at-is-broken = at-if2 .before in
+    let at-start = at-is-broken .before .before .before .before in
+    let w = whole-long (at-start .args .bytes .now) (sym (at-is-broken .is-broken .ensures) ∙ at-if2 .if2 .left) in
+    let f = whole-five (at-start .args .bytes .now) (sym (at-is-broken .is-broken .ensures) ∙ at-if2 .if2 .left) (sym (at-pair .pair .ensures) ∙ c .before .if3 .taken) in
+    (omega arith, search needs)
 
 same-length-2 : tie.Need-same-length-2
 same-length-2 c = search needs
 
 returns-3 : tie.Need-returns-3
-returns-3 c = stepped (c .before .before .take-setting .ensures) (setting-possible _ _) (turn-setting _ _ _ (c .before .before .before .before .before .before .before .before .if1 .left) (sym (c .before .before .before .before .before .before .before .is-broken .ensures) ∙ c .before .before .before .before .before .before .if2 .left) (c .before .before .before .before .before .pair .ensures) (c .before .before .before .before .if3 .taken))
+returns-3 c =
+    let at-take-setting = c .before .before in
+    let at-if3 = at-take-setting .before .before in
+    let at-pair = at-if3 .before in
+    let at-if2 = at-pair .before in
+    let at-is-broken = at-if2 .before in
+    let at-if1 = at-is-broken .before in
+    stepped (at-take-setting .take-setting .ensures) (setting-possible _ _) (turn-setting _ _ _ (at-if1 .if1 .left) (sym (at-is-broken .is-broken .ensures) ∙ at-if2 .if2 .left) (at-pair .pair .ensures) (at-if3 .if3 .taken))
 
 take-points-requires : tie.Need-take-points-requires
-take-points-requires c κs = let w = whole-long (c .before .before .before .before .before .before .before .before .before .args .bytes .now) (sym (c .before .before .before .before .before .is-broken .ensures) ∙ c .before .before .before .before .if2 .left) in (omega arith, c .before .before .before .before .before .before .before .before .before .pre .1, search needs)
+take-points-requires c κs =
+    let at-if2 = c .before .before .before .before in
+    let at-is-broken = at-if2 .before in
+    let at-start = at-is-broken .before .before .before .before in
+    let w = whole-long (at-start .args .bytes .now) (sym (at-is-broken .is-broken .ensures) ∙ at-if2 .if2 .left) in
+    (omega arith, at-start .pre .1, search needs)
 
 same-length-3 : tie.Need-same-length-3
 same-length-3 c = search needs
 
 returns-4 : tie.Need-returns-4
-returns-4 c = stepped (c .before .before .take-points .ensures) (come-possible _ _ _ (c .before .before .before .before .before .before .before .before .before .before .before .before .pre .0)) (turn-points _ _ _ (c .before .before .before .before .before .before .before .before .before .if1 .left) (sym (c .before .before .before .before .before .before .before .before .is-broken .ensures) ∙ c .before .before .before .before .before .before .before .if2 .left) (c .before .before .before .before .before .before .pair .ensures) (c .before .before .before .before .if4 .taken))
+returns-4 c =
+    let at-take-points = c .before .before in
+    let at-if4 = at-take-points .before .before in
+    let at-pair = at-if4 .before .before in
+    let at-if2 = at-pair .before in
+    let at-is-broken = at-if2 .before in
+    let at-if1 = at-is-broken .before in
+    let at-start = at-if1 .before .before .before in
+    stepped (at-take-points .take-points .ensures) (come-possible _ _ _ (at-start .pre .0)) (turn-points _ _ _ (at-if1 .if1 .left) (sym (at-is-broken .is-broken .ensures) ∙ at-if2 .if2 .left) (at-pair .pair .ensures) (at-if4 .if4 .taken))
 
 take-word-requires : tie.Need-take-word-requires
-take-word-requires c κs = let w = whole-long (c .before .before .before .before .before .before .before .before .before .before .args .bytes .now) (sym (c .before .before .before .before .before .before .is-broken .ensures) ∙ c .before .before .before .before .before .if2 .left) in (c .before .before .before .before .before .before .before .before .before .before .pre .0, omega arith, c .before .before .before .before .before .before .before .before .before .before .pre .1, search needs)
+take-word-requires c κs =
+    let at-if2 = c .before .before .before .before .before in
+    let at-is-broken = at-if2 .before in
+    let at-start = at-is-broken .before .before .before .before in
+    let w = whole-long (at-start .args .bytes .now) (sym (at-is-broken .is-broken .ensures) ∙ at-if2 .if2 .left) in
+    (at-start .pre .0, omega arith, at-start .pre .1, search needs)
 
 same-length-4 : tie.Need-same-length-4
 same-length-4 c = search needs
 
 returns-5 : tie.Need-returns-5
-returns-5 c = stepped (c .before .before .take-word .ensures) (word-possible _ _ _ (c .before .before .before .before .before .before .before .before .before .before .before .before .before .pre .0)) (turn-word _ _ _ (c .before .before .before .before .before .before .before .before .before .before .if1 .left) (sym (c .before .before .before .before .before .before .before .before .before .is-broken .ensures) ∙ c .before .before .before .before .before .before .before .before .if2 .left) (c .before .before .before .before .before .before .before .pair .ensures) (c .before .before .before .before .if5 .taken))
+returns-5 c =
+    let at-take-word = c .before .before in
+    let at-if5 = at-take-word .before .before in
+    let at-pair = at-if5 .before .before .before in
+    let at-if2 = at-pair .before in
+    let at-is-broken = at-if2 .before in
+    let at-if1 = at-is-broken .before in
+    let at-start = at-if1 .before .before .before in
+    stepped (at-take-word .take-word .ensures) (word-possible _ _ _ (at-start .pre .0)) (turn-word _ _ _ (at-if1 .if1 .left) (sym (at-is-broken .is-broken .ensures) ∙ at-if2 .if2 .left) (at-pair .pair .ensures) (at-if5 .if5 .taken))
 
 told-requires-2 : tie.Need-told-requires-2
 told-requires-2 c κs = search needs
@@ -73,7 +124,17 @@ same-length-5 : tie.Need-same-length-5
 same-length-5 c = search needs
 
 returns-6 : tie.Need-returns-6
-returns-6 c = stepped (c .before .before .told2 .ensures) (c .before .before .before .before .before .before .before .before .before .before .before .before .before .pre .0) (turn-other _ _ _ (c .before .before .before .before .before .before .before .before .before .before .if1 .left) (sym (c .before .before .before .before .before .before .before .before .before .is-broken .ensures) ∙ c .before .before .before .before .before .before .before .before .if2 .left) (c .before .before .before .before .before .before .before .pair .ensures) (c .before .before .before .before .before .before .if3 .left) (c .before .before .before .before .before .if4 .left) (c .before .before .before .before .if5 .left))
+returns-6 c =
+    let at-told2 = c .before .before in
+    let at-if5 = at-told2 .before .before in
+    let at-if4 = at-if5 .before in
+    let at-if3 = at-if4 .before in
+    let at-pair = at-if3 .before in
+    let at-if2 = at-pair .before in
+    let at-is-broken = at-if2 .before in
+    let at-if1 = at-is-broken .before in
+    let at-start = at-if1 .before .before .before in
+    stepped (at-told2 .told2 .ensures) (at-start .pre .0) (turn-other _ _ _ (at-if1 .if1 .left) (sym (at-is-broken .is-broken .ensures) ∙ at-if2 .if2 .left) (at-pair .pair .ensures) (at-if3 .if3 .left) (at-if4 .if4 .left) (at-if5 .if5 .left))
 
 pub step-spec : {M : Type 1} → statement M
 step-spec =

@@ -1,3 +1,4 @@
+-- told: the line is the report, and what is held is kept.
 use mathlib.Core.Path.{refl}
 use Rattle.rules.specs.Patch.{report}
 use native.Mathlib.Omega.{arith}

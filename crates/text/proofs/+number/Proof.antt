@@ -1,3 +1,4 @@
+-- number: it follows the definition of the digits, from the last one back.
 use mathlib.Core.Path.{_≡_, sym, ap, _∙_}
 use mathlib.Core.List.{List, [], _∷_, _++_}
 use Prim.Native.Nat.{ℕ, _+_, _/_, _^_, _<_, _≤_}

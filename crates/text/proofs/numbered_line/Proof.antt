@@ -1,3 +1,4 @@
+-- numbered_line: the number, the fields and the line feed, one after the other.
 use Rattle.text.proofs.Digits.{digits-few}
 use Rattle.text.proofs.Written.{wrote-len, wrote-line}
 use native.Mathlib.Omega.{arith}
@@ -9,21 +10,31 @@ number-requires : tie.Need-number-requires
 number-requires c κs = let x = c .before .before .before in omega (arith, digits-few 19 (x .args .first) (omega (arith, x .fits .first)))
 
 numbers-requires : tie.Need-numbers-requires
-numbers-requires c κs = let x = c .before .before .before .before .before .before .before in
-    omega (arith, digits-few 19 (x .args .first) (omega (arith, x .fits .first)), c .before .before .before .number .ensures .next, wrote-len (c .before .before .before .number .ensures))
+numbers-requires c κs =
+    let at-number = c .before .before .before in
+    let x = c .before .before .before .before .before .before .before in
+    omega (arith, digits-few 19 (x .args .first) (omega (arith, x .fits .first)), at-number .number .ensures .next, wrote-len (at-number .number .ensures))
 
 put-requires : tie.Need-put-requires
-put-requires c κs = let x = c .before .before .before .before .before .before .before .before .before .before .before in
-    omega (arith, digits-few 19 (x .args .first) (omega (arith, x .fits .first)), c .before .before .before .before .before .before .before .number .ensures .next, c .before .before .before .numbers .ensures .0, wrote-len (c .before .before .before .before .before .before .before .number .ensures), wrote-len (c .before .before .before .numbers .ensures .1))
+put-requires c κs =
+    let at-numbers = c .before .before .before in
+    let at-number = at-numbers .before .before .before .before in
+    let x = c .before .before .before .before .before .before .before .before .before .before .before in
+    omega (arith, digits-few 19 (x .args .first) (omega (arith, x .fits .first)), at-number .number .ensures .next, at-numbers .numbers .ensures .0, wrote-len (at-number .number .ensures), wrote-len (at-numbers .numbers .ensures .1))
 
 same-length : tie.Need-same-length
 same-length c = search needs
 
 returns : tie.Need-returns
-returns c = let x = c .before .before .before .before .before .before .before .before .before .before .before .before .before .before in (
-  omega (arith, digits-few 19 (x .args .first) (omega (arith, x .fits .first)), c .before .before .before .before .before .before .before .before .before .before .number .ensures .next, c .before .before .before .before .before .before .numbers .ensures .0, c .before .before .put .ensures .next),
-  wrote-line (c .before .before .before .before .before .before .before .before .before .before .before .before .before .before .args .fields .now) (c .before .before .before .before .before .before .before .before .before .before .number .ensures) (c .before .before .before .before .before .before .numbers .ensures .1) (c .before .before .put .ensures),
-)
+returns c =
+    let at-put = c .before .before in
+    let at-numbers = at-put .before .before .before .before in
+    let at-number = at-numbers .before .before .before .before in
+    let at-start = at-number .before .before .before .before in
+    let x = at-start in (
+      omega (arith, digits-few 19 (x .args .first) (omega (arith, x .fits .first)), at-number .number .ensures .next, at-numbers .numbers .ensures .0, at-put .put .ensures .next),
+      wrote-line (at-start .args .fields .now) (at-number .number .ensures) (at-numbers .numbers .ensures .1) (at-put .put .ensures),
+    )
 
 pub numbered-line-spec : {M : Type 1} → statement M
 numbered-line-spec =

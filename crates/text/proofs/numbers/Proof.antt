@@ -1,3 +1,4 @@
+-- numbers: after i fields the first i are written.
 use mathlib.Core.Path.{_≡_, refl, ap, _∙_}
 use Prim.Native.Nat.{_+_, _-_, _*_, _≤_}
 use lib.ListN.{length, take}
@@ -33,8 +34,10 @@ wide-requires : tie.Need-wide-requires Inv-loop μ-loop
 wide-requires c κs = search needs
 
 number-requires : tie.Need-number-requires Inv-loop μ-loop
-number-requires c κs = let p = c .before .before .before .before .before in
-    omega (arith, digits-few 4 (c .before .wide .result) (omega arith), p .put .ensures .next, wrote-len (p .put .ensures), c .before .before .before .before .before .before .before .before .loop .inv)
+number-requires c κs =
+    let at-loop = c .before .before .before .before .before .before .before .before in
+    let p = c .before .before .before .before .before in
+    omega (arith, digits-few 4 (c .before .wide .result) (omega arith), p .put .ensures .next, wrote-len (p .put .ensures), at-loop .loop .inv)
 
 add-i : tie.Need-add-i Inv-loop μ-loop
 add-i c = search needs
@@ -43,12 +46,20 @@ loop-less : tie.Need-loop-less Inv-loop μ-loop
 loop-less c = search needs
 
 loop-again : tie.Need-loop-again Inv-loop μ-loop
-loop-again c = let m = c .before .before in let p = c .before .before .before .before .before .before .before .before in let l = c .before .before .before .before .before .before .before .before .before .before .before .loop in let w = c .before .before .before .before .wide in (
-  omega arith,
-  omega (arith, digits-few 4 (w .result) (omega arith), m .number .ensures .next, p .put .ensures .next),
-  wrote-len (m .number .ensures) ∙ wrote-len (p .put .ensures) ∙ l .inv .2,
-  wrote-as (wrote-then (l .inv .3) (wrote-then (p .put .ensures) (m .number .ensures))) (spaced-more (c .before .before .before .before .before .before .before .before .before .before .before .before .before .before .args .fields .now) (l .i) (w .result) (c .before .before .before .before .before .before .before .before .before .before .loop-test .taken) (w .ensures .0)),
-)
+loop-again c =
+    let at-wide = c .before .before .before .before in
+    let at-loop-test = at-wide .before .before .before .before .before .before in
+    let at-loop = at-loop-test .before in
+    let at-start = at-loop .before .before .before in
+    let m = c .before .before in
+    let p = c .before .before .before .before .before .before .before .before in
+    let l = at-loop .loop in
+    let w = at-wide .wide in (
+      omega arith,
+      omega (arith, digits-few 4 (w .result) (omega arith), m .number .ensures .next, p .put .ensures .next),
+      wrote-len (m .number .ensures) ∙ wrote-len (p .put .ensures) ∙ l .inv .2,
+      wrote-as (wrote-then (l .inv .3) (wrote-then (p .put .ensures) (m .number .ensures))) (spaced-more (at-start .args .fields .now) (l .i) (w .result) (at-loop-test .loop-test .taken) (w .ensures .0)),
+    )
 
 same-length : tie.Need-same-length Inv-loop μ-loop
 same-length c = search needs

@@ -1,3 +1,4 @@
+-- plus_line: the sign, the fields and the line feed, one after the other.
 use Rattle.text.proofs.Written.{wrote-len, wrote-line}
 use native.Mathlib.Omega.{arith}
 use borrow.Author.Needs.{needs}
@@ -12,16 +13,22 @@ numbers-requires c κs = omega (arith, c .before .before .before .put .ensures .
 
 put-requires-2 : tie.Need-put-requires-2
 put-requires-2 c κs =
-    omega (arith, c .before .before .before .before .before .before .before .put .ensures .next, c .before .before .before .numbers .ensures .0, wrote-len (c .before .before .before .before .before .before .before .put .ensures), wrote-len (c .before .before .before .numbers .ensures .1))
+    let at-numbers = c .before .before .before in
+    let at-put = at-numbers .before .before .before .before in
+    omega (arith, at-put .put .ensures .next, at-numbers .numbers .ensures .0, wrote-len (at-put .put .ensures), wrote-len (at-numbers .numbers .ensures .1))
 
 same-length : tie.Need-same-length
 same-length c = search needs
 
 returns : tie.Need-returns
-returns c = (
-  omega (arith, c .before .before .before .before .before .before .before .before .before .before .put .ensures .next, c .before .before .before .before .before .before .numbers .ensures .0, c .before .before .put2 .ensures .next),
-  wrote-line (c .before .before .before .before .before .before .before .before .before .before .before .before .before .before .args .fields .now) (c .before .before .before .before .before .before .before .before .before .before .put .ensures) (c .before .before .before .before .before .before .numbers .ensures .1) (c .before .before .put2 .ensures),
-)
+returns c =
+    let at-put2 = c .before .before in
+    let at-numbers = at-put2 .before .before .before .before in
+    let at-put = at-numbers .before .before .before .before in
+    let at-start = at-put .before .before .before .before in (
+      omega (arith, at-put .put .ensures .next, at-numbers .numbers .ensures .0, at-put2 .put2 .ensures .next),
+      wrote-line (at-start .args .fields .now) (at-put .put .ensures) (at-numbers .numbers .ensures .1) (at-put2 .put2 .ensures),
+    )
 
 pub plus-line-spec : {M : Type 1} → statement M
 plus-line-spec =

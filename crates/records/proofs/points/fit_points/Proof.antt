@@ -1,3 +1,4 @@
+-- fit_points: accepted points are the whole body, which stands at the front of the array.
 use mathlib.Core.Path.{refl, sym, ap, _∙_}
 use lib.Seq.{length-take-le}
 use Rattle.rules.specs.Patch.{points-refusal}
@@ -28,7 +29,13 @@ same-length : tie.Need-same-length
 same-length c = search needs
 
 returns : tie.Need-returns
-returns c = did-as (c .before .before .told .ensures) (points-taken _ _ _ (c .before .before .before .before .before .before .points-refusal .ensures ∙ ap (points-refusal _) (body-front refl (c .before .before .before .before .before .before .before .before .read-body .ensures))) (c .before .before .before .before .before .if1 .taken) _ (c .before .before .before .before .before .before .before .before .read-body .ensures .count) (body-front refl (c .before .before .before .before .before .before .before .before .read-body .ensures)) (c .before .before .before .before .with-points .ensures))
+returns c =
+    let at-told = c .before .before in
+    let at-with-points = at-told .before .before in
+    let at-if1 = at-with-points .before in
+    let at-points-refusal = at-if1 .before in
+    let at-read-body = at-points-refusal .before .before in
+    did-as (at-told .told .ensures) (points-taken _ _ _ (at-points-refusal .points-refusal .ensures ∙ ap (points-refusal _) (body-front refl (at-read-body .read-body .ensures))) (at-if1 .if1 .taken) _ (at-read-body .read-body .ensures .count) (body-front refl (at-read-body .read-body .ensures)) (at-with-points .with-points .ensures))
 
 with-setting-requires : tie.Need-with-setting-requires
 with-setting-requires c κs = search needs
@@ -40,7 +47,13 @@ same-length-2 : tie.Need-same-length-2
 same-length-2 c = search needs
 
 returns-2 : tie.Need-returns-2
-returns-2 c = did-as (c .before .before .told2 .ensures) (points-refused _ _ _ (c .before .before .before .before .before .before .points-refusal .ensures ∙ ap (points-refusal _) (body-front refl (c .before .before .before .before .before .before .before .before .read-body .ensures))) (c .before .before .before .before .before .if1 .left) (c .before .before .before .before .with-setting .ensures))
+returns-2 c =
+    let at-told2 = c .before .before in
+    let at-with-setting = at-told2 .before .before in
+    let at-if1 = at-with-setting .before in
+    let at-points-refusal = at-if1 .before in
+    let at-read-body = at-points-refusal .before .before in
+    did-as (at-told2 .told2 .ensures) (points-refused _ _ _ (at-points-refusal .points-refusal .ensures ∙ ap (points-refusal _) (body-front refl (at-read-body .read-body .ensures))) (at-if1 .if1 .left) (at-with-setting .with-setting .ensures))
 
 pub fit-points-spec : {M : Type 1} → statement M
 fit-points-spec =

@@ -1,3 +1,4 @@
+-- points_refusal: 5, 6 and 7 in their order.
 use mathlib.Core.Path.{sym, _∙_}
 use borrow.Author.Tests.{not-true, not-false}
 use Rattle.records.proofs.Refused.{points-5, points-6, points-7, points-0}
@@ -24,10 +25,18 @@ all-distinct-requires : tie.Need-all-distinct-requires
 all-distinct-requires c κs = search needs
 
 returns-3 : tie.Need-returns-3
-returns-3 c = points-7 _ _ (c .before .before .before .before .before .if1 .left) (sym (c .before .before .before .all-below .ensures) ∙ not-false _ (c .before .before .if2 .left)) (sym (c .before .all-distinct .ensures) ∙ not-true _ (c .if3 .taken))
+returns-3 c =
+    let at-if2 = c .before .before in
+    let at-all-below = at-if2 .before in
+    let at-if1 = at-all-below .before .before in
+    points-7 _ _ (at-if1 .if1 .left) (sym (at-all-below .all-below .ensures) ∙ not-false _ (at-if2 .if2 .left)) (sym (c .before .all-distinct .ensures) ∙ not-true _ (c .if3 .taken))
 
 returns-4 : tie.Need-returns-4
-returns-4 c = points-0 _ _ (c .before .before .before .before .before .if1 .left) (sym (c .before .before .before .all-below .ensures) ∙ not-false _ (c .before .before .if2 .left)) (sym (c .before .all-distinct .ensures) ∙ not-false _ (c .if3 .left))
+returns-4 c =
+    let at-if2 = c .before .before in
+    let at-all-below = at-if2 .before in
+    let at-if1 = at-all-below .before .before in
+    points-0 _ _ (at-if1 .if1 .left) (sym (at-all-below .all-below .ensures) ∙ not-false _ (at-if2 .if2 .left)) (sym (c .before .all-distinct .ensures) ∙ not-false _ (c .if3 .left))
 
 pub points-refusal-spec : {M : Type 1} → statement M
 points-refusal-spec =

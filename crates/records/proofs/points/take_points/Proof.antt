@@ -1,3 +1,4 @@
+-- take_points: 12 where nothing is held, before the body is read.
 use Rattle.records.proofs.Turns.{did-as, points-missing, points-set, points-ready}
 use borrow.Author.Needs.{needs}
 use Rattle.records.proofs.points.take_points.Statement.{statement}

@@ -1,3 +1,4 @@
+-- read_setting: the five numbers of the body.
 use Rattle.records.proofs.Turns.{setting-read}
 use borrow.Author.Needs.{needs}
 use Rattle.records.proofs.settings.read_setting.Statement.{statement}
@@ -19,7 +20,11 @@ pair-requires-5 : tie.Need-pair-requires-5
 pair-requires-5 c κs = search needs
 
 returns : tie.Need-returns
-returns c = setting-read _ (c .before .before .before .before .pair .ensures) (c .before .before .before .pair2 .ensures) (c .before .before .pair3 .ensures) (c .before .pair4 .ensures) (c .pair5 .ensures)
+returns c =
+    let at-pair3 = c .before .before in
+    let at-pair2 = at-pair3 .before in
+    let at-pair = at-pair2 .before in
+    setting-read _ (at-pair .pair .ensures) (at-pair2 .pair2 .ensures) (at-pair3 .pair3 .ensures) (c .before .pair4 .ensures) (c .pair5 .ensures)
 
 pub read-setting-spec : {M : Type 1} → statement M
 read-setting-spec =

@@ -1,3 +1,4 @@
+-- setting_refusal: what the setting call refuses, and 8 by the room R that it gives.
 use mathlib.Core.Path.{sym, _∙_}
 use Rattle.setting.proofs.Taken.{refusal-is, taken}
 use Rattle.records.proofs.Refused.{call-refuses, too-much-work, enough-work}
@@ -28,10 +29,20 @@ returns : tie.Need-returns
 returns c = call-refuses _ (refusal-is _ (c .before .before .derive .result) (c .before .before .derive .ensures)) (c .if1 .taken)
 
 returns-2 : tie.Need-returns-2
-returns-2 c = let d = c .before .before .before .before .derive in let t = taken _ (d .result) (d .ensures) (c .before .before .if1 .left) in too-much-work _ (sym (refusal-is _ (d .result) (d .ensures)) ∙ c .before .before .if1 .left) (omega (arith, t .is-R))
+returns-2 c =
+    let at-if1 = c .before .before in
+    let at-derive = at-if1 .before .before in
+    let d = at-derive .derive in
+    let t = taken _ (d .result) (d .ensures) (at-if1 .if1 .left) in
+    too-much-work _ (sym (refusal-is _ (d .result) (d .ensures)) ∙ at-if1 .if1 .left) (omega (arith, t .is-R))
 
 returns-3 : tie.Need-returns-3
-returns-3 c = let d = c .before .before .before .before .derive in let t = taken _ (d .result) (d .ensures) (c .before .before .if1 .left) in enough-work _ (sym (refusal-is _ (d .result) (d .ensures)) ∙ c .before .before .if1 .left) (omega (arith, t .is-R))
+returns-3 c =
+    let at-if1 = c .before .before in
+    let at-derive = at-if1 .before .before in
+    let d = at-derive .derive in
+    let t = taken _ (d .result) (d .ensures) (at-if1 .if1 .left) in
+    enough-work _ (sym (refusal-is _ (d .result) (d .ensures)) ∙ at-if1 .if1 .left) (omega (arith, t .is-R))
 
 pub setting-refusal-spec : {M : Type 1} → statement M
 setting-refusal-spec =

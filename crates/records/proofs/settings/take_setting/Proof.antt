@@ -1,3 +1,4 @@
+-- take_setting: a refused setting leaves nothing held.
 use Rattle.records.proofs.Turns.{did-as, set-taken, set-refused}
 use borrow.Author.Needs.{needs}
 use Rattle.records.proofs.settings.take_setting.Statement.{statement}
@@ -19,7 +20,13 @@ same-length : tie.Need-same-length
 same-length c = search needs
 
 returns : tie.Need-returns
-returns c = did-as (c .before .before .told .ensures) (set-taken _ _ (c .before .before .before .before .before .before .before .read-setting .ensures) (c .before .before .before .before .before .before .setting-refusal .ensures) (c .before .before .before .before .before .if1 .taken) (c .before .before .before .before .with-setting .ensures))
+returns c =
+    let at-told = c .before .before in
+    let at-with-setting = at-told .before .before in
+    let at-if1 = at-with-setting .before in
+    let at-setting-refusal = at-if1 .before in
+    let at-read-setting = at-setting-refusal .before in
+    did-as (at-told .told .ensures) (set-taken _ _ (at-read-setting .read-setting .ensures) (at-setting-refusal .setting-refusal .ensures) (at-if1 .if1 .taken) (at-with-setting .with-setting .ensures))
 
 start-requires : tie.Need-start-requires
 start-requires c κs = search needs
@@ -31,7 +38,13 @@ same-length-2 : tie.Need-same-length-2
 same-length-2 c = search needs
 
 returns-2 : tie.Need-returns-2
-returns-2 c = did-as (c .before .before .told2 .ensures) (set-refused _ _ (c .before .before .before .before .before .before .before .read-setting .ensures) (c .before .before .before .before .before .before .setting-refusal .ensures) (c .before .before .before .before .before .if1 .left) (c .before .before .before .before .start .ensures))
+returns-2 c =
+    let at-told2 = c .before .before in
+    let at-start = at-told2 .before .before in
+    let at-if1 = at-start .before in
+    let at-setting-refusal = at-if1 .before in
+    let at-read-setting = at-setting-refusal .before in
+    did-as (at-told2 .told2 .ensures) (set-refused _ _ (at-read-setting .read-setting .ensures) (at-setting-refusal .setting-refusal .ensures) (at-if1 .if1 .left) (at-start .start .ensures))
 
 pub take-setting-spec : {M : Type 1} → statement M
 take-setting-spec =

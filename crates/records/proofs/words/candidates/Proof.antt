@@ -1,3 +1,4 @@
+-- candidates: after j lines those of the first j messages are written.
 use mathlib.Core.Path.{_≡_, refl, ap, _∙_}
 use Prim.Native.Nat.{_+_, _-_, _*_, _≤_}
 use native.Mathlib.Nat.{zero-mul}
@@ -22,10 +23,14 @@ loop-holds : tie.Need-loop-holds Inv-loop μ-loop
 loop-holds c = (omega arith, omega (arith, zero-mul (c .before .before .args .k)), omega arith, refl, wrote-as (wrote-none _ _) (lines-none _ _))
 
 add-e : tie.Need-add-e Inv-loop μ-loop
-add-e c = let f = row-fits {t = c .before .loop .j} {n = c .before .before .before .before .args .found} (c .before .before .before .before .args .k) (c .loop-test .taken) in search needs
+add-e c =
+    let at-start = c .before .before .before .before in
+    let f = row-fits {t = c .before .loop .j} {n = at-start .args .found} (at-start .args .k) (c .loop-test .taken) in search needs
 
 mul-plus-line : tie.Need-mul-plus-line Inv-loop μ-loop
-mul-plus-line c = let f = row-fits {t = c .before .loop .j} {n = c .before .before .before .before .args .found} (c .before .before .before .before .args .k) (c .loop-test .taken) in search needs
+mul-plus-line c =
+    let at-start = c .before .before .before .before in
+    let f = row-fits {t = c .before .loop .j} {n = at-start .args .found} (at-start .args .k) (c .loop-test .taken) in search needs
 
 sub-plus-line : tie.Need-sub-plus-line Inv-loop μ-loop
 sub-plus-line c = search needs
@@ -34,10 +39,18 @@ part-plus-line-start : tie.Need-part-plus-line-start Inv-loop μ-loop
 part-plus-line-start c = search needs
 
 part-plus-line-end : tie.Need-part-plus-line-end Inv-loop μ-loop
-part-plus-line-end c = let f = row-fits {t = c .before .loop .j} {n = c .before .before .before .before .args .found} (c .before .before .before .before .args .k) (c .loop-test .taken) in search needs
+part-plus-line-end c =
+    let at-start = c .before .before .before .before in
+    let f = row-fits {t = c .before .loop .j} {n = at-start .args .found} (at-start .args .k) (c .loop-test .taken) in search needs
 
 plus-line-requires : tie.Need-plus-line-requires Inv-loop μ-loop
-plus-line-requires c κs = let f = row-fits {t = c .before .before .before .loop .j} {n = c .before .before .before .before .before .before .args .found} (c .before .before .before .before .before .before .args .k) (c .before .before .loop-test .taken) in let g = row-fits {t = c .before .before .before .loop .j} {n = c .before .before .before .before .before .before .args .found} (c .before .before .before .before .before .before .args .k * 6 + 2) (c .before .before .loop-test .taken) in omega (arith, part-long (c .before .before .before .loop .a) (c .before .before .before .before .before .before .args .k) (c .before .before .before .before .before .before .args .list .now) (omega arith))
+plus-line-requires c κs =
+    let at-loop-test = c .before .before in
+    let at-loop = at-loop-test .before in
+    let at-start = at-loop .before .before .before in
+    let f = row-fits {t = at-loop .loop .j} {n = at-start .args .found} (at-start .args .k) (at-loop-test .loop-test .taken) in
+    let g = row-fits {t = at-loop .loop .j} {n = at-start .args .found} (at-start .args .k * 6 + 2) (at-loop-test .loop-test .taken) in
+    omega (arith, part-long (at-loop .loop .a) (at-start .args .k) (at-start .args .list .now) (omega arith))
 
 add-j : tie.Need-add-j Inv-loop μ-loop
 add-j c = search needs
@@ -46,13 +59,21 @@ loop-less : tie.Need-loop-less Inv-loop μ-loop
 loop-less c = search needs
 
 loop-again : tie.Need-loop-again Inv-loop μ-loop
-loop-again c = let l = c .before .before .before .before .before .before .loop in let x = c .before .before .before .before .before .before .before .before .before .args in let f = row-fits {t = l .j} {n = x .found} (x .k) (c .before .before .before .before .before .loop-test .taken) in let w = c .before .before .plus-line .ensures in (
-  omega arith,
-  omega (arith, row-end (l .j) (x .k)),
-  omega (arith, row-end (l .j) (x .k * 6 + 2), w .0, part-long (l .a) (x .k) (x .list .now) (omega arith)),
-  wrote-len (w .1) ∙ l .inv .3,
-  wrote-as (wrote-then (l .inv .4) (w .1)) (lines-more (x .k) (l .j) (l .a) (l .a + x .k) (x .list .now) (l .inv .1) refl),
-)
+loop-again c =
+    let at-plus-line = c .before .before in
+    let at-loop-test = at-plus-line .before .before .before in
+    let at-loop = at-loop-test .before in
+    let at-start = at-loop .before .before .before in
+    let l = at-loop .loop in
+    let x = at-start .args in
+    let f = row-fits {t = l .j} {n = x .found} (x .k) (at-loop-test .loop-test .taken) in
+    let w = at-plus-line .plus-line .ensures in (
+      omega arith,
+      omega (arith, row-end (l .j) (x .k)),
+      omega (arith, row-end (l .j) (x .k * 6 + 2), w .0, part-long (l .a) (x .k) (x .list .now) (omega arith)),
+      wrote-len (w .1) ∙ l .inv .3,
+      wrote-as (wrote-then (l .inv .4) (w .1)) (lines-more (x .k) (l .j) (l .a) (l .a + x .k) (x .list .now) (l .inv .1) refl),
+    )
 
 same-length : tie.Need-same-length Inv-loop μ-loop
 same-length c = search needs

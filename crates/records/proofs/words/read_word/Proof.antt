@@ -1,3 +1,4 @@
+-- read_word: the line, and then a line for each reading.
 use mathlib.Core.Path.{refl, sym}
 use Rattle.text.proofs.Written.{wrote-len}
 use Rattle.records.proofs.Turns.{did-as, body-front}
@@ -24,7 +25,14 @@ same-length : tie.Need-same-length
 same-length c = search needs
 
 returns : tie.Need-returns
-returns c = let h = heard-as (c .before .before .before .before .before .read-held .ensures) (body-front refl (c .before .before .before .before .before .before .before .before .before .read-body .ensures)) in did-as (c .before .before .told .ensures) (word-refused _ h (c .before .before .before .before .if1 .taken) (c .before .before .before .before .before .before .before .before .before .before .before .with-points .ensures))
+returns c =
+    let at-told = c .before .before in
+    let at-if1 = at-told .before .before in
+    let at-read-held = at-if1 .before in
+    let at-read-body = at-read-held .before .before .before .before in
+    let at-with-points = at-read-body .before .before in
+    let h = heard-as (at-read-held .read-held .ensures) (body-front refl (at-read-body .read-body .ensures)) in
+    did-as (at-told .told .ensures) (word-refused _ h (at-if1 .if1 .taken) (at-with-points .with-points .ensures))
 
 slice-aggregate-numbered-line : tie.Need-slice-aggregate-numbered-line
 slice-aggregate-numbered-line c = search needs
@@ -42,16 +50,35 @@ cast-candidates-2 : tie.Need-cast-candidates-2
 cast-candidates-2 c = search needs
 
 candidates-requires : tie.Need-candidates-requires
-candidates-requires c κs = let h = heard-as (c .before .before .before .before .before .before .before .before .before .read-held .ensures) (body-front refl (c .before .before .before .before .before .before .before .before .before .before .before .before .before .read-body .ensures)) in let l = h .accepted (c .before .before .before .before .before .before .before .before .if1 .left) in let n = c .before .before .before .before .before .numbered-line .ensures in
-    (search (needs, l .room), omega (arith, h .list-long, l .room, l .few, lines-room (c .before .before .before .before .before .before .before .before .before .read-held .result .found) (c .before .before .before .before .before .before .before .before .before .before .before .before .before .before .before .before .before .before .args .setting .k), n .0, wrote-len (n .1), c .before .before .before .before .before .before .before .before .before .before .before .before .before .before .before .before .before .before .pre))
+candidates-requires c κs =
+    let at-numbered-line = c .before .before .before .before .before in
+    let at-if1 = at-numbered-line .before .before .before in
+    let at-read-held = at-if1 .before in
+    let at-read-body = at-read-held .before .before .before .before in
+    let at-start = at-read-body .before .before .before .before .before in
+    let h = heard-as (at-read-held .read-held .ensures) (body-front refl (at-read-body .read-body .ensures)) in
+    let l = h .accepted (at-if1 .if1 .left) in
+    let n = at-numbered-line .numbered-line .ensures in
+    (search (needs, l .room), omega (arith, h .list-long, l .room, l .few, lines-room (at-read-held .read-held .result .found) (at-start .args .setting .k), n .0, wrote-len (n .1), at-start .pre))
 
 same-length-2 : tie.Need-same-length-2
 same-length-2 c = search needs
 
 returns-2 : tie.Need-returns-2
-returns-2 c = let h = heard-as (c .before .before .before .before .before .before .before .before .before .before .before .before .read-held .ensures) (body-front refl (c .before .before .before .before .before .before .before .before .before .before .before .before .before .before .before .before .read-body .ensures)) in let l = h .accepted (c .before .before .before .before .before .before .before .before .before .before .before .if1 .left) in let n = c .before .before .before .before .before .before .before .before .numbered-line .ensures in let p = c .before .before .candidates .ensures in
-    word-heard _ h (c .before .before .before .before .before .before .before .before .before .before .before .if1 .left) (n .1) (p .1) (c .before .before .before .before .before .before .before .before .before .before .before .before .before .before .before .before .before .before .with-points .ensures)
-    (omega (arith, h .list-long, l .room, l .few, lines-room (c .before .before .before .before .before .before .before .before .before .before .before .before .read-held .result .found) (c .before .before .before .before .before .before .before .before .before .before .before .before .before .before .before .before .before .before .before .before .before .args .setting .k), n .0, p .0, c .before .before .before .before .before .before .before .before .before .before .before .before .before .before .before .before .before .before .before .before .before .pre))
+returns-2 c =
+    let at-candidates = c .before .before in
+    let at-numbered-line = at-candidates .before .before .before .before .before .before in
+    let at-if1 = at-numbered-line .before .before .before in
+    let at-read-held = at-if1 .before in
+    let at-read-body = at-read-held .before .before .before .before in
+    let at-with-points = at-read-body .before .before in
+    let at-start = at-with-points .before .before .before in
+    let h = heard-as (at-read-held .read-held .ensures) (body-front refl (at-read-body .read-body .ensures)) in
+    let l = h .accepted (at-if1 .if1 .left) in
+    let n = at-numbered-line .numbered-line .ensures in
+    let p = at-candidates .candidates .ensures in
+    word-heard _ h (at-if1 .if1 .left) (n .1) (p .1) (at-with-points .with-points .ensures)
+    (omega (arith, h .list-long, l .room, l .few, lines-room (at-read-held .read-held .result .found) (at-start .args .setting .k), n .0, p .0, at-start .pre))
 
 pub read-word-spec : {M : Type 1} → statement M
 read-word-spec =

@@ -1,3 +1,4 @@
+-- take_word: 12 where no points are held, before the body is read.
 use mathlib.Core.Path.{subst}
 use mathlib.Core.List.{[]}
 use lib.Dec.{T}
