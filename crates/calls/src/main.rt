@@ -112,6 +112,48 @@ fn check(c: Case, points: &[u16], word: &[u16], curve: &[u16]) {
     put_front(curve, 0);
 }
 
+// Listing and reading: how much of work is cleared, and the list.
+fn listed(c: Case, points: &[u16], word: &[u16], curve: &[u16]) {
+    let mut output = [OLD; 1537];
+    let mut work = [OLD; 60000];
+    let o = reader::list(
+        c.p,
+        c.n,
+        c.k,
+        c.s,
+        c.tau,
+        points,
+        word,
+        curve,
+        &mut output,
+        &mut work,
+    );
+    put_outcome(o);
+    put(zeros(&work));
+    put_places(o.found, c.k, &output);
+}
+
+fn readings(c: Case, points: &[u16], word: &[u16]) {
+    let mut output = [OLD; 1537];
+    let mut curve = [OLD; 6400];
+    let mut work = [OLD; 60000];
+    let o = reader::read(
+        c.p,
+        c.n,
+        c.k,
+        c.s,
+        c.tau,
+        points,
+        word,
+        &mut output,
+        &mut curve,
+        &mut work,
+    );
+    put_outcome(o);
+    put(zeros(&work));
+    put_places(o.found, c.k, &output);
+}
+
 fn run(c: Case, points: &[u16], word: &[u16], curve: &[u16]) {
     let call = c.call;
     if call == 1 {
@@ -119,6 +161,12 @@ fn run(c: Case, points: &[u16], word: &[u16], curve: &[u16]) {
     }
     if call == 2 {
         check(c, points, word, curve);
+    }
+    if call == 3 {
+        listed(c, points, word, curve);
+    }
+    if call == 4 {
+        readings(c, points, word);
     }
 }
 

@@ -1,3 +1,4 @@
 pub mod Link
 pub mod Listing
 pub mod Exists
+pub mod Beginnings

@@ -2,7 +2,7 @@ mod Scan
 mod Answers
 mod Patch
 mod Front
-mod Lowest
+pub mod Lowest
 mod Pair
 mod Encoding
 mod Shape

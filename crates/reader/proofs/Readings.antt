@@ -3,11 +3,11 @@ use mathlib.Core.Path.{_≡_, refl, sym, ap, _∙_}
 use mathlib.Core.Bool.{Bool, true, false, cond, not, _&&_, _||_}
 use mathlib.Core.List.{List, [], flatten}
 use Prim.Native.Nat.{ℕ, _+_, _-_, _*_, _≤_}
-use native.Mathlib.Decide.{ℕ-discrete}
 use native.Mathlib.Omega.{arith}
 use lib.Dec.{T, eqb, ltb, eqb→eq}
 use lib.ListN.{length}
-use borrow.Author.Tests.{eqb-true, not-false, ne-eqb}
+use native.Mathlib.Decide.{ℕ-discrete}
+use borrow.Author.Tests.{eqb-true, ne-eqb, not-false}
 use Rattle.rules.specs.Lists.{all}
 use Rattle.rules.specs.Field.{ops}
 use Rattle.rules.specs.Code.{triples, zeros, readings}
@@ -106,13 +106,6 @@ module _ (S : Setting) (points word Q output work : List ℕ) where
       }
       accepted-is = unfold list-call in rw none refl
 
--- all but the curve and the beginnings
-pub record Alike (o o′ : Reading) : Type 0 where
-  pub refusal : o .refusal ≡ o′ .refusal
-  pub found : o .found ≡ o′ .found
-  pub output : o .output ≡ o′ .output
-  pub work : o .work ≡ o′ .work
-
 module _ (S : Setting) (points word output curve work : List ℕ) where
   abbrev refusal : ℕ
   refusal = read-refusal S points word (length output) (length curve) (length work)
@@ -136,49 +129,42 @@ module _ (S : Setting) (points word output curve work : List ℕ) where
         passing = t .1;
       }
 
-  accepted-is : refusal ≡ 0 → (Q : List ℕ) → read-call S points word output curve work Q ≡ record {
-    refusal = 0;
-    found = length (list-of S points word Q);
-    tried = tried-of S Q;
-    output = over (flatten (list-of S points word Q)) output;
-    curve = over Q curve;
-    work = cleared (R S) work;
-  }
-  unfolding read-call
-  accepted-is z Q = rw z refl
+  pub read-reads : (o : Reading) → Reads S points word output curve work o → o .refusal ≡ 0 → Answer S points word (o .found) (o .tried) output (o .output)
+  read-reads o h z = rw (h .rest ∙ accepted-is) (answer S points word Q (read-fit none Q (h .passes z)) output)
+    where
+      Q : List ℕ
+      Q = used S (o .curve)
+
+      none : refusal ≡ 0
+      none = sym (read-number Q) ∙ ap (λ (o : Reading). o .refusal) (sym (h .rest)) ∙ z
+
+      accepted-is : read-call S points word output curve work Q ≡ record {
+        refusal = 0;
+        found = length (list-of S points word Q);
+        tried = tried-of S Q;
+        output = over (flatten (list-of S points word Q)) output;
+        curve = over Q curve;
+        work = cleared (R S) work;
+      }
+      accepted-is = unfold read-call in rw none refl
 
   refused-is : ¬ (refusal ≡ 0) → (Q : List ℕ) → read-call S points word output curve work Q ≡ record { refusal = refusal; found = 0; tried = 0; output = output; curve = curve; work = work }
   unfolding read-call
-  refused-is h Q = simp (ne-eqb refusal 0 h) refl
+  refused-is n Q = rw (ne-eqb refusal 0 n) refl
 
-  number-of : (o : Reading) → Reads S points word output curve work o → o .refusal ≡ refusal
-  number-of o h = ap (λ (o : Reading). o .refusal) (h .rest) ∙ read-number (used S (o .curve))
-
-  pub read-reads : (o : Reading) → Reads S points word output curve work o → o .refusal ≡ 0 → Answer S points word (o .found) (o .tried) output (o .output)
-  read-reads o h z =
-      let Q = used S (o .curve) in
-      let none = sym (number-of o h) ∙ z in
-      rw (h .rest ∙ accepted-is none Q) (answer S points word Q (read-fit none Q (h .passes z)) output)
-
-  -- two readings of one word are alike, whatever curves they found
-  pub read-alike : (o o′ : Reading) → Reads S points word output curve work o → Reads S points word output curve work o′ → Alike o o′
-  read-alike o o′ h h′ = go (ℕ-discrete refusal 0)
+  -- Whatever the curves, two readings that the contract allows have the same refusal, list length and output.
+  pub read-list-unique : (o o′ : Reading) → Reads S points word output curve work o → Reads S points word output curve work o′ → (o .refusal ≡ o′ .refusal) × (o .found ≡ o′ .found) × (o .output ≡ o′ .output)
+  read-list-unique o o′ h h′ = go (ℕ-discrete refusal 0)
     where
-      go : Dec (refusal ≡ 0) → Alike o o′
+      is : (o : Reading) → Reads S points word output curve work o → o .refusal ≡ refusal
+      is o h = ap (λ (o : Reading). o .refusal) (h .rest) ∙ read-number (used S (o .curve))
+
+      go : Dec (refusal ≡ 0) → (o .refusal ≡ o′ .refusal) × (o .found ≡ o′ .found) × (o .output ≡ o′ .output)
       go (yes z) =
-          let a = read-reads o h (number-of o h ∙ z) in
-          let a′ = read-reads o′ h′ (number-of o′ h′ ∙ z) in
-          record {
-            refusal = number-of o h ∙ sym (number-of o′ h′);
-            found = a .list ∙ sym (a′ .list);
-            output = a .written ∙ sym (a′ .written);
-            work = ap (λ (o : Reading). o .work) (h .rest ∙ accepted-is z _) ∙ sym (ap (λ (o : Reading). o .work) (h′ .rest ∙ accepted-is z _));
-          }
+          let a = read-reads o h (is o h ∙ z) in
+          let b = read-reads o′ h′ (is o′ h′ ∙ z) in
+          (is o h ∙ sym (is o′ h′), a .list ∙ sym (b .list), a .written ∙ sym (b .written))
       go (no n) =
-          let e = h .rest ∙ refused-is n (used S (o .curve)) ∙ sym (h′ .rest ∙ refused-is n (used S (o′ .curve))) in
-          record {
-            refusal = ap (λ (o : Reading). o .refusal) e;
-            found = ap (λ (o : Reading). o .found) e;
-            output = ap (λ (o : Reading). o .output) e;
-            work = ap (λ (o : Reading). o .work) e;
-          }
+          let e = h .rest ∙ refused-is n (used S (o .curve)) in
+          let e′ = h′ .rest ∙ refused-is n (used S (o′ .curve)) in
+          (is o h ∙ sym (is o′ h′), ap (λ (o : Reading). o .found) (e ∙ sym e′), ap (λ (o : Reading). o .output) (e ∙ sym e′))

@@ -6,7 +6,7 @@ ghost use Rattle.reader.specs.Calls.{encoded, checked, finding, listing,
 
 mod refusals;
 mod sifting;
-mod tests;
+pub mod tests;
 mod word;
 mod writing;
 

@@ -1,0 +1,7 @@
+pub mod Refused
+pub mod Turns
+pub mod Lines
+pub mod Hearing
+pub mod Answered
+pub mod Steps
+pub mod Unique

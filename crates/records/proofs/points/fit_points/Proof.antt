@@ -1,0 +1,60 @@
+use mathlib.Core.Path.{refl, sym, ap, _∙_}
+use lib.Seq.{length-take-le}
+use Rattle.rules.specs.Patch.{points-refusal}
+use Rattle.records.proofs.Turns.{did-as, body-front, body-short, points-taken, points-refused}
+use borrow.Author.Needs.{needs}
+use Rattle.records.proofs.points.fit_points.Statement.{statement}
+use Rattle.records.proofs.points.fit_points.Tie as tie
+
+read-body-requires : tie.Need-read-body-requires
+read-body-requires c κs = search needs
+
+array-share-prefix-points : tie.Need-array-share-prefix-points
+array-share-prefix-points c = body-short refl (c .read-body .ensures)
+
+slice-aggregate-points-refusal : tie.Need-slice-aggregate-points-refusal
+slice-aggregate-points-refusal c = sym (length-take-le _ _ (body-short refl (c .before .read-body .ensures)))
+
+points-refusal-requires : tie.Need-points-refusal-requires
+points-refusal-requires c κs = search needs
+
+with-points-requires : tie.Need-with-points-requires
+with-points-requires c κs = search needs
+
+told-requires : tie.Need-told-requires
+told-requires c κs = search needs
+
+same-length : tie.Need-same-length
+same-length c = search needs
+
+returns : tie.Need-returns
+returns c = did-as (c .before .before .told .ensures) (points-taken _ _ _ (c .before .before .before .before .before .before .points-refusal .ensures ∙ ap (points-refusal _) (body-front refl (c .before .before .before .before .before .before .before .before .read-body .ensures))) (c .before .before .before .before .before .if1 .taken) _ (c .before .before .before .before .before .before .before .before .read-body .ensures .count) (body-front refl (c .before .before .before .before .before .before .before .before .read-body .ensures)) (c .before .before .before .before .with-points .ensures))
+
+with-setting-requires : tie.Need-with-setting-requires
+with-setting-requires c κs = search needs
+
+told-requires-2 : tie.Need-told-requires-2
+told-requires-2 c κs = search needs
+
+same-length-2 : tie.Need-same-length-2
+same-length-2 c = search needs
+
+returns-2 : tie.Need-returns-2
+returns-2 c = did-as (c .before .before .told2 .ensures) (points-refused _ _ _ (c .before .before .before .before .before .before .points-refusal .ensures ∙ ap (points-refusal _) (body-front refl (c .before .before .before .before .before .before .before .before .read-body .ensures))) (c .before .before .before .before .before .if1 .left) (c .before .before .before .before .with-setting .ensures))
+
+pub fit-points-spec : {M : Type 1} → statement M
+fit-points-spec =
+    tie.close
+    (tie.spec
+    read-body-requires
+    array-share-prefix-points
+    slice-aggregate-points-refusal
+    points-refusal-requires
+    with-points-requires
+    told-requires
+    same-length
+    returns
+    with-setting-requires
+    told-requires-2
+    same-length-2
+    returns-2)

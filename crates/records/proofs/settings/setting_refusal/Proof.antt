@@ -1,0 +1,48 @@
+use mathlib.Core.Path.{sym, _∙_}
+use Rattle.setting.proofs.Taken.{refusal-is, taken}
+use Rattle.records.proofs.Refused.{call-refuses, too-much-work, enough-work}
+use native.Mathlib.Omega.{arith}
+use borrow.Author.Needs.{needs}
+use Rattle.records.proofs.settings.setting_refusal.Statement.{statement}
+use Rattle.records.proofs.settings.setting_refusal.Tie as tie
+
+cast-derive : tie.Need-cast-derive
+cast-derive c = search needs
+
+cast-derive-2 : tie.Need-cast-derive-2
+cast-derive-2 c = search needs
+
+cast-derive-3 : tie.Need-cast-derive-3
+cast-derive-3 c = search needs
+
+cast-derive-4 : tie.Need-cast-derive-4
+cast-derive-4 c = search needs
+
+cast-derive-5 : tie.Need-cast-derive-5
+cast-derive-5 c = search needs
+
+derive-requires : tie.Need-derive-requires
+derive-requires c κs = search needs
+
+returns : tie.Need-returns
+returns c = call-refuses _ (refusal-is _ (c .before .before .derive .result) (c .before .before .derive .ensures)) (c .if1 .taken)
+
+returns-2 : tie.Need-returns-2
+returns-2 c = let d = c .before .before .before .before .derive in let t = taken _ (d .result) (d .ensures) (c .before .before .if1 .left) in too-much-work _ (sym (refusal-is _ (d .result) (d .ensures)) ∙ c .before .before .if1 .left) (omega (arith, t .is-R))
+
+returns-3 : tie.Need-returns-3
+returns-3 c = let d = c .before .before .before .before .derive in let t = taken _ (d .result) (d .ensures) (c .before .before .if1 .left) in enough-work _ (sym (refusal-is _ (d .result) (d .ensures)) ∙ c .before .before .if1 .left) (omega (arith, t .is-R))
+
+pub setting-refusal-spec : {M : Type 1} → statement M
+setting-refusal-spec =
+    tie.close
+    (tie.spec
+    cast-derive
+    cast-derive-2
+    cast-derive-3
+    cast-derive-4
+    cast-derive-5
+    derive-requires
+    returns
+    returns-2
+    returns-3)

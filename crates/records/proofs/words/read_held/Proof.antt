@@ -1,0 +1,63 @@
+use mathlib.Core.Path.{sym}
+use Prim.Native.Nat.{ℕ}
+use lib.ListN.{take, length-replicate}
+use lib.Seq.{length-take-le}
+use Rattle.records.specs.Holding.{setting-of}
+use Rattle.records.proofs.Hearing.{kept, heard, found-few}
+use native.Mathlib.Omega.{arith}
+use borrow.Author.Needs.{needs}
+use Rattle.records.proofs.words.read_held.Statement.{statement}
+use Rattle.records.proofs.words.read_held.Tie as tie
+
+cast-n : tie.Need-cast-n
+cast-n c = search needs
+
+cast-read : tie.Need-cast-read
+cast-read c = search needs
+
+cast-read-2 : tie.Need-cast-read-2
+cast-read-2 c = search needs
+
+cast-read-3 : tie.Need-cast-read-3
+cast-read-3 c = search needs
+
+cast-read-4 : tie.Need-cast-read-4
+cast-read-4 c = search needs
+
+slice-aggregate-read : tie.Need-slice-aggregate-read
+slice-aggregate-read c = let x = c .before .before .before .before .before .before .before .before in let K = kept (setting-of (x .args .s)) (take (x .args .s .n) (x .args .points .now)) (x .pre .0) in sym (length-take-le _ _ (omega (arith, K .setting .passed .ranged .code .n-most)))
+
+slice-aggregate-read-2 : tie.Need-slice-aggregate-read-2
+slice-aggregate-read-2 c = let x = c .before .before .before .before .before .before .before .before .before in sym (length-take-le _ _ (omega (arith, x .pre .1)))
+
+slice-aggregate-read-3 : tie.Need-slice-aggregate-read-3
+slice-aggregate-read-3 c = search needs
+
+slice-aggregate-read-4 : tie.Need-slice-aggregate-read-4
+slice-aggregate-read-4 c = search needs
+
+read-requires : tie.Need-read-requires
+read-requires c κs = search needs
+
+cast-t28 : tie.Need-cast-t28
+cast-t28 c = let x = c .before .before .before .before .before .before .before .before .before .before .before .before .before .before .before .before in let K = kept (setting-of (x .args .s)) (take (x .args .s .n) (x .args .points .now)) (x .pre .0) in let r = c .before .before .before .read in let f = found-few _ _ _ K _ _ _ _ (r .ensures) (omega (arith, c .before .before .before .before .before .before .read-arg3 .given)) (length-replicate {A = ℕ} 6400 0) (length-replicate {A = ℕ} 24000 0) in search (needs, c .before .before .before .before .before .before .read-arg3 .given)
+
+returns : tie.Need-returns
+returns c = let x = c .before .before .before .before .before .before .before .before .before .before .before .before .before .before .before .before in let K = kept (setting-of (x .args .s)) (take (x .args .s .n) (x .args .points .now)) (x .pre .0) in let r = c .before .before .before .read in heard _ _ _ K _ _ _ _ (r .ensures) (omega (arith, c .before .before .before .before .before .before .read-arg3 .given)) (length-replicate {A = ℕ} 6400 0) (length-replicate {A = ℕ} 24000 0) (omega (arith, c .before .before .before .before .before .before .read-arg3 .given))
+
+pub read-held-spec : {M : Type 1} → statement M
+read-held-spec =
+    tie.close
+    (tie.spec
+    cast-n
+    cast-read
+    cast-read-2
+    cast-read-3
+    cast-read-4
+    slice-aggregate-read
+    slice-aggregate-read-2
+    slice-aggregate-read-3
+    slice-aggregate-read-4
+    read-requires
+    cast-t28
+    returns)

@@ -1,0 +1,59 @@
+// A record of kind 2: it drops the held points, and brings others where there is a setting.
+ghost use mathlib.Core.Path.{_≡_};
+ghost use Prim.Native.Nat.{_≤_};
+ghost use lib.ListN.{length};
+ghost use Rattle.rules.specs.Patch.{body, points-refusal, points-turn, points-come};
+ghost use Rattle.records.specs.Holding.{setting-of, held-of};
+ghost use Rattle.records.specs.Did.{Did};
+use crate::Done;
+use crate::Held;
+use crate::Setting;
+use crate::Stage;
+use crate::told;
+use crate::with_points;
+use crate::with_setting;
+
+// 5, 6 or 7.
+fn points_refusal(s: Setting, points: &[u16]) -> u16
+    ensures { λ r. ⌜ r ≡ points-refusal (setting-of s) (now (points .entry)) ⌝ }
+{
+    if points.len() != s.n as usize {
+        return 5;
+    }
+    if !reader::tests::all_below(s.p as usize, points) {
+        return 6;
+    }
+    if !reader::tests::all_distinct(points) {
+        return 7;
+    }
+    0
+}
+
+// Points for this setting.
+fn fit_points(setting: Setting, number: u64, bytes: &[u8], out: &mut [u8]) -> Done
+    requires { ⌜ (4 ≤ length (now bytes)) × (length (now bytes) ≤ 132) × (16384 ≤ length (now out)) ⌝ }
+    ensures { λ r. ⌜ Did (points-turn number (setting-of setting) (body (now (bytes .entry)))) (now (out .entry)) (now (out .exit)) r ⌝ }
+{
+    let mut points = [0u16; 64];
+    let m = parsing::read_body(bytes, &mut points);
+    let refusal = points_refusal(setting, &points[..m]);
+    if refusal == 0 {
+        let held = with_points(setting, points);
+        return told(held, number, 2, 0, true, out);
+    }
+    let held = with_setting(setting);
+    told(held, number, 2, refusal, true, out)
+}
+
+pub fn take_points(held: Held, number: u64, bytes: &[u8], out: &mut [u8]) -> Done
+    requires { ⌜ (4 ≤ length (now bytes)) × (length (now bytes) ≤ 132) × (16384 ≤ length (now out)) ⌝ }
+    ensures { λ r. ⌜ Did (points-come number (held-of held) (body (now (bytes .entry)))) (now (out .entry)) (now (out .exit)) r ⌝ }
+{
+    let stage = held.stage;
+    let setting = held.setting;
+    match stage {
+        Stage::Nothing => told(held, number, 2, 12, true, out),
+        Stage::Set => fit_points(setting, number, bytes, out),
+        Stage::Ready => fit_points(setting, number, bytes, out),
+    }
+}

@@ -1,0 +1,113 @@
+// A record of kind 3: the word is read with the setting and the points that are held.
+ghost use mathlib.Core.List.{[], _∷_, flatMap};
+ghost use Prim.Native.Nat.{_+_, _*_, _≤_};
+ghost use lib.Dec.{T};
+ghost use lib.ListN.{length, take};
+ghost use Rattle.rules.specs.Patch.{ready, line, body, word-turn, word-comes};
+ghost use Rattle.rules.specs.Search.{rows};
+ghost use Rattle.text.specs.Wrote.{Wrote};
+ghost use Rattle.records.specs.Holding.{setting-of, held-of, possible};
+ghost use Rattle.records.specs.Did.{Did};
+ghost use Rattle.records.specs.Heard.{Heard};
+use crate::Done;
+use crate::Held;
+use crate::Setting;
+use crate::Stage;
+use crate::told;
+use crate::with_points;
+
+// What reading a word gives: the refusal number or 0, and how many candidates there are.
+struct Answer {
+    refusal: u16,
+    found: u16,
+}
+
+// "After it comes "+" and k symbols for each candidate": a line for each.
+fn candidates(list: &[u16], k: usize, found: usize, out: &mut [u8], at: usize) -> usize
+    requires { ⌜ (found * k ≤ length (now list)) × (at + found * (k * 6 + 2) ≤ length (now out)) ⌝ }
+    ensures { λ r. ⌜ (r ≤ at + found * (k * 6 + 2)) × Wrote (flatMap (line (43 ∷ [])) (rows k found (now (list .entry)))) at (now (out .entry)) (now (out .exit)) r ⌝ }
+{
+    let mut j: usize = 0;
+    let mut a: usize = 0;
+    let mut to = at;
+    while j < found {
+        let e = a + k;
+        to = text::plus_line(&list[a..e], out, to);
+        a = e;
+        j += 1;
+    }
+    to
+}
+
+// The word is the first m of its array.
+fn read_held(
+    s: Setting,
+    points: &[u16; 64],
+    word: &[u16; 64],
+    m: usize,
+    list: &mut [u16; 1536],
+) -> Answer
+    requires { ⌜ T (possible (ready (setting-of s) (take (s .n) (now points)))) × (m ≤ 64) ⌝ }
+    ensures { λ r. ⌜ Heard (setting-of s) (take (s .n) (now (points .entry))) (take m (now (word .entry))) (now (list .exit)) (r .refusal) (r .found) ⌝ }
+{
+    let mut curve = [0u16; 6400];
+    let mut work = [0u16; 24000];
+    let n = s.n as usize;
+    let held: &[u16] = points;
+    let heard: &[u16] = word;
+    let reading = reader::read(
+        s.p as usize,
+        n,
+        s.k as usize,
+        s.s as usize,
+        s.tau as usize,
+        &held[..n],
+        &heard[..m],
+        list,
+        &mut curve,
+        &mut work,
+    );
+    Answer {
+        refusal: reading.refusal,
+        found: reading.found as u16,
+    }
+}
+
+// A word for this setting and these points.
+fn read_word(setting: Setting, points: [u16; 64], number: u64, bytes: &[u8], out: &mut [u8]) -> Done
+    requires { ⌜ T (possible (ready (setting-of setting) (take (setting .n) points))) × (4 ≤ length (now bytes)) × (length (now bytes) ≤ 132) × (16384 ≤ length (now out)) ⌝ }
+    ensures { λ r. ⌜ Did (word-turn number (setting-of setting) (take (setting .n) points) (body (now (bytes .entry)))) (now (out .entry)) (now (out .exit)) r ⌝ }
+{
+    let held = with_points(setting, points);
+    let mut word = [0u16; 64];
+    let m = parsing::read_body(bytes, &mut word);
+    let mut list = [0u16; 1536];
+    let answer = read_held(setting, &points, &word, m, &mut list);
+    let refusal = answer.refusal;
+    if refusal != 0 {
+        return told(held, number, 3, refusal, true, out);
+    }
+    let found = answer.found;
+    let fields = [3, 0, found];
+    let at = text::numbered_line(number, &fields, out, 0);
+    let wrote = candidates(&list, setting.k as usize, found as usize, out, at);
+    Done {
+        held,
+        wrote,
+        more: true,
+    }
+}
+
+pub fn take_word(held: Held, number: u64, bytes: &[u8], out: &mut [u8]) -> Done
+    requires { ⌜ T (possible (held-of held)) × (4 ≤ length (now bytes)) × (length (now bytes) ≤ 132) × (16384 ≤ length (now out)) ⌝ }
+    ensures { λ r. ⌜ Did (word-comes number (held-of held) (body (now (bytes .entry)))) (now (out .entry)) (now (out .exit)) r ⌝ }
+{
+    let stage = held.stage;
+    let setting = held.setting;
+    let points = held.points;
+    match stage {
+        Stage::Nothing => told(held, number, 3, 12, true, out),
+        Stage::Set => told(held, number, 3, 12, true, out),
+        Stage::Ready => read_word(setting, points, number, bytes, out),
+    }
+}
