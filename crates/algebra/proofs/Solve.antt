@@ -1,5 +1,5 @@
 -- Kötter's algorithm run to its end, on curves as functions: after the conditions of any triples there is a basis whose leading terms are least.
-use mathlib.Core.Path.{_≡_, refl, sym, _∙_, ap, subst}
+use mathlib.Core.Path.{_≡_, refl, sym, ap, subst}
 use mathlib.Core.Logic.{_⊎_, inl, inr}
 use mathlib.Core.List.{List, [], _∷_, _++_, map, flatMap, append-nil, append-assoc}
 use Prim.Native.Nat.{ℕ, zero, suc, _<_, _≤_, _+_, _-_}

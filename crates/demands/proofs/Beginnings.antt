@@ -1,5 +1,5 @@
 -- Demand 3 of the numbers in slices: for every curve that is not zero, at most ℓ beginnings of each length from 1 on are alive.
-use mathlib.Core.Path.{_≡_, sym, _∙_, ap, subst}
+use mathlib.Core.Path.{_≡_, _∙_, subst}
 use mathlib.Core.Bool.{not}
 use mathlib.Core.List.{List, map}
 use Prim.Native.Nat.{ℕ, suc, _+_, _*_, _≤_, _<_}

@@ -1,8 +1,7 @@
 -- Q(0, y) of a curve in a slot: its coefficients are what the rows begin with, and the test of a symbol is the test of a number.
-use mathlib.Core.Bool.{Bool}
 use mathlib.Core.Path.{_≡_, refl, sym, ap, ap₂, _∙_}
-use mathlib.Core.List.{List, [], _∷_, map}
-use Prim.Native.Nat.{ℕ, zero, suc, _+_, _-_, _*_, _<_, _≤_, _%_}
+use mathlib.Core.List.{List, [], _∷_}
+use Prim.Native.Nat.{ℕ, zero, suc, _+_, _-_, _*_, _<_, _≤_}
 use native.Mathlib.Nat.{mod-eq-of-lt, zero-mod, zero-add}
 use native.Mathlib.Omega.{arith}
 use lib.Dec.{T, eqb}

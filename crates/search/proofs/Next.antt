@@ -1,12 +1,11 @@
 -- The curve of a longer beginning in its slot: number by number what the definitions say, carried through the field.
-use mathlib.Core.Path.{_≡_, refl, sym, ap, ap₂, _∙_}
-use mathlib.Core.Logic.{⊎-elim}
+use mathlib.Core.Path.{_≡_, sym, ap, ap₂, _∙_}
 use mathlib.Core.List.{List, map}
-use Prim.Native.Nat.{ℕ, zero, suc, _+_, _-_, _*_, _<_, _≤_, _%_, Fin}
+use Prim.Native.Nat.{ℕ, _+_, _-_, _*_, _<_, _≤_, Fin}
 use native.Mathlib.Nat.{mod-eq-of-lt, zero-mod}
 use native.Mathlib.Omega.{arith}
 use lib.Dec.{T}
-use lib.ListN.{length, getD, List·getD-map}
+use lib.ListN.{getD, List·getD-map}
 use Rattle.rules.specs.Field.{Ops, ops, modulus}
 use Rattle.rules.specs.Search.{rows, stripped, step}
 use Rattle.algebra.specs.Search.{cell, next, found, tried, Within}
@@ -19,7 +18,6 @@ use Rattle.prime.specs.Field.{value, elt, field}
 use Rattle.prime.proofs.Below.{modulus-two}
 use Rattle.prime.proofs.Laws.{laws, elt-value}
 use Rattle.demands.proofs.Link.{elt-hom, value-hom}
-use Rattle.buffers.proofs.Change.{lt-or-ge}
 use Rattle.buffers.proofs.Rows.{row-fits}
 use Rattle.search.proofs.Numbers.{cell-hom, rows-values, step-value}
 

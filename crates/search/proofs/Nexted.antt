@@ -1,7 +1,7 @@
 -- next: what its three calls leave is the curve of the longer beginning.
 use mathlib.Core.Path.{_≡_, sym, ap, _∙_}
 use mathlib.Core.Logic.{⊎-elim}
-use mathlib.Core.List.{List, map}
+use mathlib.Core.List.{List}
 use Prim.Native.Nat.{ℕ, _+_, _*_, _<_, _≤_}
 use native.Mathlib.Omega.{arith}
 use lib.Dec.{T}
@@ -9,7 +9,6 @@ use lib.ListN.{length, getD}
 use Rattle.rules.specs.Field.{ops, modulus}
 use Rattle.rules.specs.Search.{rows, step}
 use Rattle.algebra.specs.Search.{cell}
-use Rattle.prime.specs.Field.{value, elt}
 use Rattle.prime.proofs.Below.{modulus-two}
 use Rattle.buffers.specs.Change.{Changed}
 use Rattle.buffers.proofs.Change.{lt-or-ge, changed-front}

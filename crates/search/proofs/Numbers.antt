@@ -8,7 +8,7 @@ use lib.Dec.{T}
 use lib.ListN.{length, getD, take, drop, List·getD-map, length-take, length-drop, length-map}
 use lib.Seq.{getD-take, getD-drop, ext-getD, length-take-le}
 use Rattle.rules.specs.Field.{Ops, ops, plus, times, modulus}
-use Rattle.rules.specs.Search.{rows, stripped, step}
+use Rattle.rules.specs.Search.{rows, step}
 use Rattle.algebra.specs.Hom.{Hom}
 use Rattle.algebra.specs.Poly.{coef, shift}
 use Rattle.algebra.specs.Search.{cell}

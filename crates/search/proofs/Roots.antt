@@ -1,14 +1,14 @@
 -- The roots written one after the other, and the test at the end of a beginning.
-use mathlib.Core.Bool.{Bool, true, false, cond, _&&_}
+use mathlib.Core.Bool.{Bool, true, false, cond}
 use mathlib.Core.Path.{_≡_, refl, sym, ap, ap₂, _∙_}
 use mathlib.Core.Logic.{_↔_, ⊎-elim}
 use mathlib.Core.List.{List, [], _∷_, _++_, map, flatten, append-nil, append-assoc}
-use Prim.Native.Nat.{ℕ, zero, suc, _+_, _-_, _*_, _<_, _≤_, _%_}
+use Prim.Native.Nat.{ℕ, zero, suc, _+_, _-_, _*_, _<_, _≤_}
 use native.Mathlib.Nat.{mod-eq-of-lt, zero-mod, mul-one, mul-le-mul-left}
 use native.Mathlib.Omega.{arith}
 use native.Mathlib.Numerals.{add-one}
 use lib.Dec.{T, eqb, eqb→eq}
-use lib.ListN.{length, getD, take, length-append, length-take, List·getD-append}
+use lib.ListN.{length, getD, take, length-append, List·getD-append}
 use lib.Seq.{getD-append-add, getD-take, length-take-le}
 use Rattle.rules.specs.Code.{zeros}
 use Rattle.rules.specs.Field.{ops, alike}
@@ -16,7 +16,6 @@ use Rattle.rules.specs.Lists.{all}
 use Rattle.rules.specs.Search.{rows}
 use Rattle.rules.proofs.Tests.{both, and, same-test}
 use Rattle.algebra.specs.Search.{found}
-use Rattle.buffers.specs.Change.{Changed}
 use Rattle.buffers.proofs.Change.{lt-or-ge}
 use Rattle.buffers.proofs.Part.{len-mid}
 use Rattle.buffers.proofs.Rows.{row-end}

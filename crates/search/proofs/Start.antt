@@ -1,6 +1,6 @@
 -- The search of a curve: it starts from the curve stripped, finds its roots and tries its beginnings, at most so many.
 use mathlib.Core.Bool.{not}
-use mathlib.Core.Path.{_≡_, refl, sym, ap, ap₂, subst, _∙_}
+use mathlib.Core.Path.{_≡_, refl, sym, ap, ap₂, _∙_}
 use mathlib.Core.List.{List, [], _∷_, _++_, map, flatten}
 use Prim.Native.Nat.{ℕ, _+_, _-_, _*_, _<_, _≤_, Fin}
 use native.Mathlib.Nat.{zero-add, sub-self, add-mul, mul-le-mul-right}

@@ -15,7 +15,7 @@ use Rattle.algebra.proofs.Rows.{rows-length}
 use Rattle.prime.specs.Field.{value, elt}
 use Rattle.prime.proofs.Below.{modulus-two}
 use Rattle.buffers.proofs.Change.{lt-or-ge}
-use Rattle.buffers.proofs.Rows.{row-end, row-fits}
+use Rattle.buffers.proofs.Rows.{row-end}
 use Rattle.within.specs.Runs.{moved}
 use Rattle.search.specs.Slot.{Below, Turned, Substituted}
 use Rattle.search.proofs.Numbers.{rows-values, number-zero, number-suc, number-tall, number-below, number-cell, plus-none}

@@ -1,13 +1,13 @@
 -- A turn of the walk: what its calls are handed, and what they leave. d, b and z are the slots, the beginning and the roots as the walk begins; d₁, b₁, z₁ and all as the turn does.
 use mathlib.Core.Bool.{true, false}
-use mathlib.Core.Path.{_≡_, refl, sym, ap, ap₂, _∙_}
+use mathlib.Core.Path.{_≡_, refl, sym, ap, _∙_}
 use mathlib.Core.List.{List, [], _∷_, _++_, map}
 use Prim.Native.Nat.{ℕ, zero, suc, _+_, _-_, _*_, _<_, _≤_}
 use native.Mathlib.Nat.{suc-mul, add-mul, mul-le-mul-right, sub-zero}
 use native.Mathlib.Numerals.{sub-one}
 use native.Mathlib.Omega.{arith}
 use lib.ListN.{length, getD, set, take, length-set, length-append, length-map, length-take}
-use lib.Seq.{getD-set-same, getD-set-other, getD-take, ext-getD, length-take-le, take-suc-set}
+use lib.Seq.{getD-set-other, getD-take, ext-getD, length-take-le, take-suc-set}
 use Rattle.rules.specs.Field.{ops}
 use Rattle.rules.specs.Search.{rows, follows}
 use Rattle.algebra.specs.Search.{next, found, tried, Within}
@@ -18,7 +18,7 @@ use Rattle.search.specs.Slot.{run, Below, curve, Nexted}
 use Rattle.search.specs.Search.{size, listed, Written, Ready, Searched}
 use Rattle.search.proofs.Heads.{run-at}
 use Rattle.search.proofs.Roots.{listed-none, listed-append, listed-more, written-none, written-append, written-to}
-use Rattle.search.proofs.Walked.{through, walked, passed, walked-none, passed-none, walked-more, passed-more, walked-most, passed-most, walked-long, hit, hit-tried, miss, miss-tried, found-walked, tried-passed}
+use Rattle.search.proofs.Walked.{walked, passed, walked-none, passed-none, walked-more, passed-more, walked-most, passed-most, walked-long, hit, hit-tried, miss, miss-tried, found-walked, tried-passed}
 
 pub peel : (left s : ℕ) → 0 < left → left * s ≡ (left - 1) * s + s
 peel zero s l = absurd (omega arith)

@@ -1,6 +1,6 @@
 -- What the search needs and leaves: the tally, the roots, and the slots and symbols of the beginnings that stay.
 use mathlib.Core.Bool.{Bool, true, false, not}
-use mathlib.Core.List.{List, [], _++_, map, flatten}
+use mathlib.Core.List.{List, _++_, map, flatten}
 use mathlib.Core.Path.{_≡_}
 use Prim.Native.Nat.{ℕ, _+_, _-_, _*_, _^_, _<_, _≤_}
 use lib.Dec.{T}

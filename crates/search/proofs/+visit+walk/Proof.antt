@@ -1,9 +1,8 @@
 -- visit and walk: the symbols left fall from a visit to its walk and to the next visit; a turn of the walk is in Turn.antt.
 use mathlib.Core.Logic.{⊎-elim}
-use mathlib.Core.Path.{_≡_, refl, sym, ap, _∙_}
+use mathlib.Core.Path.{_≡_, sym, ap, _∙_}
 use Prim.Native.Nat.{_+_, _-_, _≤_}
 use native.Mathlib.Nat.{pos-of-ne-zero}
-use lib.ListN.{length}
 use Rattle.prime.proofs.Below.{modulus-small}
 use Rattle.search.specs.Slot.{curve}
 use Rattle.search.specs.Search.{size}

@@ -1,7 +1,6 @@
 -- divide: the first t rows are moved.
-use mathlib.Core.Path.{_≡_}
 use mathlib.Core.Logic.{inl}
-use Prim.Native.Nat.{ℕ, _+_, _-_, _*_, _<_, _≤_}
+use Prim.Native.Nat.{_+_, _-_, _<_, _≤_}
 use Rattle.buffers.proofs.Rows.{row-fits}
 use Rattle.search.specs.Slot.{Moved}
 use Rattle.search.proofs.Turning.{moved-none, moved-more, moved-to}

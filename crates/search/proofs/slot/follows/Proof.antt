@@ -1,9 +1,9 @@
 -- follows: the sum is the value of what the rows from t on begin with.
-use mathlib.Core.Path.{_≡_, ap, ap₂, _∙_}
-use Prim.Native.Nat.{ℕ, _+_, _-_, _*_, _<_, _≤_}
+use mathlib.Core.Path.{_≡_, _∙_}
+use Prim.Native.Nat.{_+_, _-_, _*_, _<_, _≤_}
 use lib.ListN.{drop}
 use Rattle.rules.specs.Code.{eval}
-use Rattle.rules.specs.Field.{ops, plus, times}
+use Rattle.rules.specs.Field.{ops}
 use Rattle.rules.specs.Search.{rows, firsts}
 use Rattle.buffers.proofs.Rows.{row-fits}
 use Rattle.search.specs.Slot.{run}
