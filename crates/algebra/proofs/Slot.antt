@@ -1,25 +1,22 @@
 -- The search over curves that are held flat, n rows of W numbers: what a step cut to W columns, and then stripped, leaves for the rest of the search.
 use mathlib.Core.Path.{_≡_, refl, sym, _∙_, ap, fun-ext}
-use mathlib.Core.List.{List, [], map}
+use mathlib.Core.List.{List, []}
 use mathlib.Core.Logic.{by-cases}
 use Prim.Native.Nat.{ℕ, zero, suc, _<_, _≤_, _+_, _-_, _*_}
 use native.Mathlib.Omega.{arith}
 use native.Mathlib.Decide.{decLt}
 use lib.Dec.{T}
-use lib.ListN.{length, getD, drop, length-map}
+use lib.ListN.{length, getD, drop}
 use lib.Seq.{drop-cons}
 use Rattle.rules.specs.Field.{Ops}
 use Rattle.rules.specs.Laws.{Laws}
-use Rattle.rules.specs.Curve.{total, weighted}
+use Rattle.rules.specs.Curve.{weighted}
 use Rattle.rules.specs.Search.{rows, stripped, step}
-use Rattle.algebra.specs.Poly.{coef, shift}
-use Rattle.algebra.specs.Conditions.{weight}
+use Rattle.algebra.specs.Poly.{shift}
 use Rattle.algebra.specs.Search.{cell, next, found, tried, Within}
-use Rattle.algebra.proofs.Total.{total-ext}
-use Rattle.algebra.proofs.Hasse.{taylor-total}
 use Rattle.algebra.proofs.Complete.{weighted-at}
-use Rattle.algebra.proofs.Rows.{rows-length, cell-length, cell-column, cell-rows, rows-wide, rows-cells}
-use Rattle.algebra.proofs.Step.{step-zero, step-suc, step-cell, step-nil, step-within, step-tall}
+use Rattle.algebra.proofs.Rows.{rows-length, cell-length, cell-rows, rows-wide, rows-cells}
+use Rattle.algebra.proofs.Step.{step-zero, step-suc, step-nil, step-within, step-tall}
 use Rattle.algebra.proofs.Strip.{stripped-same, stripped-cells, stripped-within}
 use Rattle.algebra.proofs.Search.{found-stripped, found-row, found-same, tried-same}
 
@@ -34,16 +31,7 @@ module _ (O : Ops) (L : Laws O) where
       (λ m. rows-wide O L W (ℓ + 1) t i Q (omega arith)))
       (λ l. cell-length O L (rows W (ℓ + 1) Q) t i (omega (arith, rows-length W (ℓ + 1) Q)))
 
-  -- a coefficient of the step, by the weights of the Hasse derivatives
-  pub step-weights : (g : Symbol) (Q : List (List Symbol)) (n t i : ℕ) → length Q ≤ n → t ≤ i →
-      cell O (step O g Q) t i ≡ total O n (λ u. mul (weight O g t u) (cell O Q u (i - t)))
-  unfolding coef
-  step-weights g Q n t i l h =
-      step-cell O L g Q t i h
-      ∙ taylor-total O L g (map (λ q. coef O q (i - t)) Q) t n (omega (arith, length-map Q (λ q. coef O q (i - t))))
-      ∙ total-ext O L n _ _ (λ u _. ap (mul (weight O g t u)) (cell-column O L Q u (i - t)))
-
-  -- Or by Horner from the last row on: what the rows from u on give, from what those after u give.
+  -- The step by Horner from the last row on: what the rows from u on give, from what those after u give.
   module _ (g : Symbol) (Q : List (List Symbol)) (u : ℕ) (l : u < length Q) where
     pub step-from-zero : (i : ℕ) → cell O (step O g (drop u Q)) 0 i ≡ add (cell O Q u i) (mul g (cell O (step O g (drop (suc u) Q)) 0 i))
     unfolding cell

@@ -55,14 +55,3 @@ changed-list {f} {n} {d} {e} xs h len fits is = ext-getD 0 e (xs ++ drop n d) (h
     at i = ⊎-elim (λ l. changed-front h i l ∙ is i l ∙ sym (List·getD-append xs (drop n d) 0 i (omega arith)))
         (λ l. let q : i ≡ n + (i - n) = omega arith in rw q (past (i - n)))
         (lt-or-ge i n)
-
--- two lists that are changed alike are equal
-pub changed-unique : {f : ℕ → ℕ} {a n : ℕ} {d e e′ : List ℕ} → Changed f a n d e → Changed f a n d e′ → e ≡ e′
-changed-unique {f} {a} {n} {d} {e} {e′} h h′ = ext-getD 0 e e′ (h .len ∙ sym (h′ .len)) λ i l. at i
-  where
-    at : (i : ℕ) → getD e i 0 ≡ getD e′ i 0
-    at i = ⊎-elim (λ l. h .low i l ∙ sym (h′ .low i l))
-        (λ l. ⊎-elim (λ u. let q : i ≡ a + (i - a) = omega arith in rw q (h .new (i - a) u ∙ sym (h′ .new (i - a) u)))
-        (λ u. h .high i (omega arith) ∙ sym (h′ .high i (omega arith)))
-        (lt-or-ge (i - a) n))
-        (lt-or-ge i a)

@@ -29,9 +29,6 @@ pub body-count : (b : List ℕ) → length (body b) ≡ length b / 2 - 2
 unfolding body
 body-count b = simp length-drop (omega (arith, pairs-count b))
 
-pub body-none : (b d : List ℕ) → d ≡ sets d 0 (take 0 (body b))
-body-none b d = refl
-
 -- one number of the body more
 pub body-more : (b d e : List ℕ) (i v : ℕ) → e ≡ sets d 0 (take i (body b)) → i < length (body b) → v ≡ getD (pairs b) (i + 2) 0 → set e i v ≡ sets d 0 (take (i + 1) (body b))
 unfolding body

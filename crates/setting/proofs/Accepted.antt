@@ -73,7 +73,3 @@ module _ (S : Setting) where
         one-slot = omega (arith, product 1 (curve-length S) (ℓ S + k + 4) (curve-length S) (omega arith) (omega arith));
         R-most = omega (arith, mul-assoc (ℓ S + k + 4) (ℓ S + 1) (W S));
       }
-
--- every row of an accepted setting has a place
-pub every-row : {S : Setting} → Accepted S → (t : ℕ) → t ≤ ℓ S → t * (S .k - 1) < W S
-every-row {S} h t l = omega (arith, product t (S .k - 1) (ℓ S) (S .k - 1) l (omega arith))
