@@ -176,7 +176,7 @@ class WrongPrograms(unittest.TestCase):
     def test_exit_codes(self):
         reasons = {"false": "ended with 1", "/nowhere/at-all": "No such file", "echo hello": "no line of an answer"}
         for program, reason in reasons.items():
-            for way in ("lines",):
+            for way in ("lines", "picture"):
                 code_, output, said = look(way, "--program", program, sample("clean"))
                 self.assertEqual((code_, output), (1, b""))
                 self.assertIn(reason, said)
