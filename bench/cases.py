@@ -3,7 +3,7 @@
 import programs
 import settings
 from programs import Failure
-from reels import Reel, record
+from reels import made, record
 from settings import Setting
 from tables import head, rate, ratio, row
 
@@ -78,7 +78,7 @@ def figures(setting, reel, plan):
 
 def case(setting, name, plan):
     """The row of one reel."""
-    reel = Reel(setting, words_for(setting, plan), plan.seed)
+    reel = made(setting, words_for(setting, plan), plan.seed)
     cells = [*setting.numbers[:4], f"{setting.tau} {name}", setting.l, f"{setting.r:,}", reel.count]
     return row(cells + figures(setting, reel, plan))
 

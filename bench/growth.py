@@ -3,9 +3,9 @@
 import programs
 import settings
 from cases import words_for
-from reels import Reel
+from reels import made
 from settings import Setting
-from tables import figure, head, row, slope
+from tables import figure, fitted, head, micro, row, slope
 
 NAMES = ["n", "k", "s", "τ", "W", "ℓ", "C", "U", "finder count", "search count", "ours, µs/word", "ns a count", "second by curve, µs/word"]
 
@@ -30,7 +30,7 @@ def series(quick):
 
 def measure(setting, plan):
     """Seconds for a word by our program and by the second one, on the same words, the outputs compared."""
-    reel = Reel(setting, words_for(setting, plan), plan.seed)
+    reel = made(setting, words_for(setting, plan), plan.seed)
     return programs.measured(plan.commands(), reel, plan, f"growth {setting.numbers}")
 
 
@@ -40,10 +40,6 @@ def line(setting, seconds):
     cells = [setting.n, setting.k, setting.s, setting.tau, setting.w, setting.l, setting.c, setting.u, f"{finder:,}", f"{search:,}"]
     each = None if ours is None else ours * 1e9 / (finder + search)
     return row(cells + [micro(ours), figure(each), micro(*other) if other else "—"])
-
-
-def micro(seconds):
-    return figure(None if seconds is None else seconds * 1e6)
 
 
 def exponents(name, all_settings, measured):
@@ -60,8 +56,18 @@ def exponents(name, all_settings, measured):
     return f"Exponent against {letter}: " + "; ".join(told) + "."
 
 
+def explained(all_rows):
+    """One price for each count and one for each word, over every setting above: least squares of the relative deviation."""
+    told = [(setting, seconds[0]) for setting, seconds in all_rows if seconds[0] is not None]
+    parts = [[setting.finder_count(), setting.search_count(), 1] for setting, _ in told]
+    prices, worst = fitted(parts, [ours for _, ours in told])
+    finder, search, word = prices
+    return f"Over all settings above our time is {finder * 1e9:.1f} ns · finder count + {search * 1e9:.1f} ns · search count + {word * 1e6:.0f} µs; no setting is off by more than {worst:.0%}."
+
+
 def tables(plan):
     """The tables, line by line, each with its exponents below."""
+    all_rows = []
     for title, name, all_settings in series(plan.quick):
         yield f"\n### Growth with {title}\n"
         yield head(NAMES)
@@ -69,4 +75,7 @@ def tables(plan):
         for setting in all_settings:
             measured.append(measure(setting, plan))
             yield line(setting, measured[-1])
+        all_rows += zip(all_settings, measured)
         yield "\n" + exponents(name, all_settings, measured)
+    yield "\nfinder count: 2·C·(ℓ+1)·U; search count: k·(p·(ℓ+1) + W·ℓ·(ℓ+1)/2), for one reading. p is 929."
+    yield explained(all_rows)

@@ -2,6 +2,7 @@
 
 import random
 import struct
+from dataclasses import dataclass
 
 
 def record(kind, numbers):
@@ -44,17 +45,29 @@ def word(source, setting, points, number):
     return word
 
 
+@dataclass
 class Reel:
-    """The first records (setting and points), and the words behind them."""
+    """The first records (setting and points), and behind them so many words."""
 
-    def __init__(self, setting, count, seed):
-        source = random.Random(f"{seed} {setting.numbers}")
-        points = chosen(source, setting.n, setting.p)
-        self.count = count
-        self.front = record(1, setting.numbers) + record(2, points)
-        words = [word(source, setting, points, number) for number in range(count)]
-        self.words = b"".join(record(3, w) for w in words)
+    front: bytes
+    words: bytes
+    count: int
 
     def repeated(self, times):
         """The file in which the words come so many times one after another; 0 times leaves the setting and the points."""
         return self.front + self.words * times
+
+
+def made(setting, count, seed):
+    """The reel that follows from the setting and the seed."""
+    source = random.Random(f"{seed} {setting.numbers}")
+    points = chosen(source, setting.n, setting.p)
+    words = [word(source, setting, points, number) for number in range(count)]
+    front = record(1, setting.numbers) + record(2, points)
+    return Reel(front, b"".join(record(3, w) for w in words), count)
+
+
+def unread(setting, kind, symbol, count):
+    """A reel whose records, all alike, are refused or passed over: nothing is read."""
+    front = record(1, setting.numbers) + record(2, list(range(setting.n)))
+    return Reel(front, record(kind, [symbol] * setting.n) * count, count)
