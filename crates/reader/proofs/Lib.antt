@@ -4,16 +4,18 @@ mod Patch
 mod Front
 pub mod Lowest
 mod Pair
+mod Rooms
+mod First
+mod Settled
 mod Encoding
-mod Shape
 mod Times
-mod Checking
-mod Finding
 mod Scoring
 mod Runs
 mod Kept
+mod Searching
+mod Checking
+mod Finding
 mod Listing
-mod Listed
-mod Allowed
+mod Reading
 pub mod Readings
 pub mod Unique

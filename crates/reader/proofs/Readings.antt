@@ -24,7 +24,7 @@ use Rattle.reader.specs.Causes.{pair-causes, proposed-causes}
 use Rattle.reader.proofs.Lowest.{none-first, none-parts}
 use Rattle.reader.proofs.Pair.{Pair, pair, pair-named, proposed, proposed-named}
 use Rattle.reader.proofs.Scoring.{under-at}
-use Rattle.reader.proofs.Checking.{setting-named}
+use Rattle.reader.proofs.First.{setting-named}
 
 -- the list and its length are those of demand 2, and the beginnings are as few as demand 3 says
 pub record Answer (S : Setting) (points word : List ℕ) (found tried : ℕ) (output output′ : List ℕ) : Type 0 where

@@ -5,7 +5,7 @@ use Prim.Native.Nat.{ℕ}
 use lib.ListN.{length, replicate}
 use Rattle.rules.specs.Outcome.{over}
 use Rattle.reader.proofs.Front.{all-clear}
-use Rattle.reader.proofs.Listing.{searchable, scorable, few-found, enough-is}
+use Rattle.reader.proofs.Searching.{searchable, scorable, few-found, enough-is}
 use native.Mathlib.Omega.{arith}
 use borrow.Author.Needs.{needs}
 use Rattle.reader.proofs.word.list.Statement.{statement}

@@ -1,0 +1,30 @@
+-- Rooms that are not too short, and what the causes before and behind them then decide.
+use mathlib.Core.Path.{_≡_, refl, sym, _∙_}
+use mathlib.Core.Bool.{Bool, true, false, _||_}
+use mathlib.Core.List.{List, [], _∷_, _++_}
+use Prim.Native.Nat.{ℕ, _≤_}
+use native.Mathlib.Omega.{arith}
+use lib.Dec.{T, ltb}
+use borrow.Author.Tests.{ltb-false}
+use Rattle.rules.specs.Refusal.{Cause, _if_, lowest}
+use Rattle.reader.proofs.Lowest.{named, none-first, none-parts}
+
+neither : (b c : Bool) → b || c ≡ false → (b ≡ false) × (c ≡ false)
+neither true c e = absurd (let z : _≡_ {A = ℕ} 0 1 = cc in omega arith)
+neither false c e = (refl, e)
+
+-- two rooms, x numbers of a buffer of a and y of b; and three
+pub two-rooms : (a x b y : ℕ) → ltb a x || ltb b y ≡ false → (x ≤ a) × (y ≤ b)
+two-rooms a x b y e = let u = neither (ltb a x) (ltb b y) e in (ltb-false a x (u .0), ltb-false b y (u .1))
+
+pub three-rooms : (a x b y c z : ℕ) → ltb a x || ltb b y || ltb c z ≡ false → (x ≤ a) × (y ≤ b) × (z ≤ c)
+three-rooms a x b y c z e =
+    let u = neither (ltb a x || ltb b y) (ltb c z) e in
+    let two = two-rooms a x b y (u .0) in
+    (two .0, two .1, ltb-false c z (u .1))
+
+-- with 8 behind other causes: where nothing is refused, the others do not apply and no room is too short
+pub not-eight : (bs : List Cause) → T (named bs) → {short : Bool} → lowest (bs ++ (8 if short) ∷ []) ≡ 0 → (lowest bs ≡ 0) × (short ≡ false)
+not-eight bs t {short} z =
+    let parts = none-parts bs ((8 if short) ∷ []) t z in
+    (parts .0, none-first 8 short [] (parts .1) (λ q. omega arith) .0)
