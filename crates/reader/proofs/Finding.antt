@@ -1,10 +1,10 @@
 -- find, return by return: what it knows there, and that its outcome is allowed.
-use mathlib.Core.Path.{_≡_, refl, sym, ap, _∙_}
+use mathlib.Core.Path.{_≡_, refl, sym, _∙_}
 use mathlib.Core.Bool.{Bool, _||_}
 use mathlib.Core.List.{List, [], _∷_, _++_}
 use Prim.Native.Nat.{ℕ, _-_, _≤_}
 use lib.Dec.{ltb}
-use lib.ListN.{length, replicate}
+use lib.ListN.{length}
 use borrow.Author.Tests.{ne-eqb}
 use borrow.Rule.Slice.PartMut.{midOf, putMid}
 use Rattle.rules.specs.Setting.{Setting}
@@ -63,7 +63,8 @@ module _ {S : Setting} {t : Terms} (posed : Posed S t) {points word curve work :
       h = posed .settled z
 
 module _ {S : Setting} {t : Terms} {points word curve work : List ℕ} {number : ℕ} (h : FindTested S t points word curve work number) where
-  pub find-refused : ¬ (number ≡ 0) → {r : Outcome} → r ≡ nothing number → Finds S points word curve work (finding (r .refusal) (r .found) (r .tried) curve work)
+  pub find-refused : ¬ (number ≡ 0) → {r : Outcome} → r ≡ nothing number
+      → Finds S points word curve work (finding (r .refusal) (r .found) (r .tried) curve work)
   find-refused = refused S points word curve work (h .is)
 
   module _ (none : number ≡ 0) where
@@ -73,13 +74,15 @@ module _ {S : Setting} {t : Terms} {points word curve work : List ℕ} {number :
         settled.findable (h .settled) (g .given) (length-front _ _ (g .curve-fits)) (length-front _ _ (g .work-fits))
 
     -- the lent fronts of both buffers are back
-    pub find-accepted : {Q front : List ℕ} → Passed (t .q) (S .k) (t .w) (t .l) (t .s) points word Q (midOf 0 (t .room - 0) work) front → {r : Outcome} → r ≡ nothing 0
-        → Finds S points word curve work (finding (r .refusal) (r .found) (r .tried) (putMid 0 (t .size - 0) curve Q) (putMid 0 (t .room - 0) work front))
+    pub find-accepted : {Q front : List ℕ} → Passed (t .q) (S .k) (t .w) (t .l) (t .s) points word Q (midOf 0 (t .room - 0) work) front
+        → {r : Outcome} → r ≡ nothing 0 → let curve′ = putMid 0 (t .size - 0) curve Q in let work′ = putMid 0 (t .room - 0) work front in
+        Finds S points word curve work (finding (r .refusal) (r .found) (r .tried) curve′ work′)
     unfolding find-call
     find-accepted {Q} f is =
         let whole = f .whole ∙ sym (settled.size-is (h .settled)) in
         let used-again = used-over S Q curve (whole ∙ h .settled .is-size) in
-        rw (is, over-front (t .size) curve Q whole, cleared-front (t .room) work (h .granted none .work-fits) (f .cleared), h .settled .is-R) (record {
+        let clear = cleared-front (t .room) work (h .granted none .work-fits) (f .cleared) in
+        rw (is, over-front (t .size) curve Q whole, clear, h .settled .is-R) (record {
           passes = λ z. rw used-again (settled.usable-is (h .settled) points word Q (f .whole) (f .small) (f .passing));
           rest = rw used-again (rw (← h .is, none) refl);
         })

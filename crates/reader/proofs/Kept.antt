@@ -57,8 +57,11 @@ module _ (q k m : ℕ) (points word times found output : List ℕ) where
   unfolding sifted
   kept-long i l = keep-long k scores (rows k i found) (rows-long k i found l)
 
-  pub sift-more : (i kept : ℕ) (f : List ℕ) {d e : List ℕ} {kept′ : ℕ} → Sifted q k m points word times i found output d kept → f ≡ message i → length f ≡ k → i * k ≤ length found
-      → kept′ ≡ cond (scores f) (kept + 1) kept → e ≡ cond (scores f) (putMid (kept * length f) (length f) d f) d → Sifted q k m points word times (i + 1) found output e kept′
+  -- f: the message in hand; d and e: the output before and after it
+  pub sift-more : (i kept : ℕ) (f : List ℕ) {d e : List ℕ} {kept′ : ℕ} → Sifted q k m points word times i found output d kept
+      → f ≡ message i → length f ≡ k → i * k ≤ length found
+      → kept′ ≡ cond (scores f) (kept + 1) kept → e ≡ cond (scores f) (putMid (kept * length f) (length f) d f) d
+      → Sifted q k m points word times (i + 1) found output e kept′
   sift-more i kept f {d} {e} {kept′} h is long fits n w =
       let more = kept-more i ∙ ap (λ g. kept-of i ++ cond (scores g) (g ∷ []) []) (sym is) in
       let r = go (scores f) n w in
@@ -74,6 +77,11 @@ module _ (q k m : ℕ) (points word times found output : List ℕ) where
           → (kept′ ≡ length (kept-of i ++ cond b (f ∷ []) [])) × (e ≡ over (flatten (kept-of i ++ cond b (f ∷ []) [])) output)
       go true n w = (
         n ∙ omega (arith, length-append (kept-of i) (f ∷ []), h .number),
-        w ∙ ap (λ xs. putMid (kept * length f) (length f) xs f) (h .written) ∙ over-more (flatten (kept-of i)) f output size refl ∙ ap (λ xs. over xs output) (sym one),
+        w
+            ∙ ap (λ xs. putMid (kept * length f) (length f) xs f) (h .written)
+            ∙ over-more (flatten (kept-of i)) f output size refl
+            ∙ ap (λ xs. over xs output) (sym one),
       )
-      go false n w = (n ∙ h .number ∙ ap length (sym (append-nil (kept-of i))), w ∙ h .written ∙ ap (λ fs. over (flatten fs) output) (sym (append-nil (kept-of i))))
+      go false n w =
+          let same = sym (append-nil (kept-of i)) in
+          (n ∙ h .number ∙ ap length same, w ∙ h .written ∙ ap (λ fs. over (flatten fs) output) same)

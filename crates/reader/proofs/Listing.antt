@@ -77,7 +77,8 @@ module _ {S : Setting} {t : Terms} (posed : Posed S t) (points word Q output wor
           record { given = proposed (S .p) (S .n) points word (t .size) Q (g .0); output-fits = rooms .0; work-fits = rooms .1 };
     }
 
-module _ {S : Setting} {t : Terms} {points word Q output work : List ℕ} {number : ℕ} (h : ListTested S t points word Q output work number) where
+module _ {S : Setting} {t : Terms} {points word Q output work : List ℕ} {number : ℕ}
+    (h : ListTested S t points word Q output work number) where
   pub list-refused : ¬ (number ≡ 0) → {r : Outcome} → r ≡ nothing number
       → listing (r .refusal) (r .found) (r .tried) output work ≡ list-call S points word Q output work
   list-refused some = refused S points word Q output work (h .refuses some) some

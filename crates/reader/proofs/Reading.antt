@@ -37,7 +37,8 @@ pub record ReadTested (S : Setting) (t : Terms) (points word output curve work :
 
 module _ (S : Setting) (points word output curve work : List ℕ) where
   refused : {number : ℕ} → number ≡ read-refusal S points word (length output) (length curve) (length work) → ¬ (number ≡ 0)
-      → {r : Outcome} → r ≡ nothing number → Reads S points word output curve work (reading (r .refusal) (r .found) (r .tried) output curve work)
+      → {r : Outcome} → r ≡ nothing number
+      → Reads S points word output curve work (reading (r .refusal) (r .found) (r .tried) output curve work)
   unfolding read-call
   refused {number} e h is = rw is (record { passes = λ z. absurd (h z); rest = rw (← e) (simp (ne-eqb number 0 h) refl) })
 
@@ -47,7 +48,8 @@ module _ {S : Setting} {t : Terms} (posed : Posed S t) {points word output curve
   unfolding read-refusal
   read-unsettled h = refused S points word output curve work (setting-refuses posed _ h) h
 
-  pub read-tested : t .refusal ≡ 0 → {short : Bool} → short ≡ ltb (length output) (t .list) || ltb (length curve) (t .size) || ltb (length work) (t .room)
+  pub read-tested : t .refusal ≡ 0 → {short : Bool}
+      → short ≡ ltb (length output) (t .list) || ltb (length curve) (t .size) || ltb (length work) (t .room)
       → {number : ℕ} → number ≡ lowest (pair-causes (S .p) (S .n) points (S .n) word ++ (8 if short) ∷ [])
       → ReadTested S t points word output curve work number
   unfolding read-refusal word-causes pair-causes
@@ -57,13 +59,19 @@ module _ {S : Setting} {t : Terms} (posed : Posed S t) {points word output curve
     granted = λ none.
         let g = not-eight (pair-causes (S .p) (S .n) points (S .n) word) (pair-named (S .p) (S .n) points (S .n) word) (sym e ∙ none) in
         let rooms = three-rooms (length output) (t .list) (length curve) (t .size) (length work) (t .room) (sym is-short ∙ g .1) in
-        record { given = pair (S .p) (S .n) points (S .n) word (g .0); output-fits = rooms .0; curve-fits = rooms .1; work-fits = rooms .2 };
+        record {
+          given = pair (S .p) (S .n) points (S .n) word (g .0);
+          output-fits = rooms .0;
+          curve-fits = rooms .1;
+          work-fits = rooms .2;
+        };
   }
     where
       h : Settled S t
       h = posed .settled z
 
-module _ {S : Setting} {t : Terms} {points word output curve work : List ℕ} {number : ℕ} (h : ReadTested S t points word output curve work number) where
+module _ {S : Setting} {t : Terms} {points word output curve work : List ℕ} {number : ℕ}
+    (h : ReadTested S t points word output curve work number) where
   pub read-refused : ¬ (number ≡ 0) → {r : Outcome} → r ≡ nothing number
       → Reads S points word output curve work (reading (r .refusal) (r .found) (r .tried) output curve work)
   read-refused = refused S points word output curve work (h .is)
@@ -75,15 +83,18 @@ module _ {S : Setting} {t : Terms} {points word output curve work : List ℕ} {n
         settled.readable (h .settled) (g .given) (g .output-fits) (length-front _ _ (g .curve-fits)) (length-front _ _ (g .work-fits))
 
     -- the lent fronts of curve and work are back
-    pub read-accepted : {output′ Q front : List ℕ} {r : Outcome} → Passed (t .q) (S .k) (t .w) (t .l) (t .s) points word Q (midOf 0 (t .room - 0) work) front
+    pub read-accepted : {output′ Q front : List ℕ} {r : Outcome}
+        → Passed (t .q) (S .k) (t .w) (t .l) (t .s) points word Q (midOf 0 (t .room - 0) work) front
         → Listed (t .q) (S .k) (t .w) (t .l) (t .s) points word Q output (midOf 0 (t .room - 0) work) output′ front r
-        → Reads S points word output curve work (reading (r .refusal) (r .found) (r .tried) output′ (putMid 0 (t .size - 0) curve Q) (putMid 0 (t .room - 0) work front))
+        → let curve′ = putMid 0 (t .size - 0) curve Q in let work′ = putMid 0 (t .room - 0) work front in
+        Reads S points word output curve work (reading (r .refusal) (r .found) (r .tried) output′ curve′ work′)
     unfolding read-call
     read-accepted {Q = Q} f o =
         let whole = f .whole ∙ sym (settled.size-is (h .settled)) in
         let used-again = used-over S Q curve (whole ∙ h .settled .is-size) in
         let same = settled.list-is (h .settled) points word Q in
-        rw (over-front (t .size) curve Q whole, cleared-front (t .room) work (h .granted none .work-fits) (f .cleared), h .settled .is-R) (record {
+        let clear = cleared-front (t .room) work (h .granted none .work-fits) (f .cleared) in
+        rw (over-front (t .size) curve Q whole, clear, h .settled .is-R) (record {
           passes = λ z. rw used-again (settled.usable-is (h .settled) points word Q (f .whole) (f .small) (f .passing));
           rest = rw used-again (rw (
             ← h .is,

@@ -1,13 +1,14 @@
 -- Rooms that are not too short, and what the causes before and behind them then decide.
 use mathlib.Core.Path.{_≡_, refl, sym, _∙_}
-use mathlib.Core.Bool.{Bool, true, false, _||_}
+use mathlib.Core.Bool.{Bool, true, false, cond, _||_}
 use mathlib.Core.List.{List, [], _∷_, _++_}
 use Prim.Native.Nat.{ℕ, _≤_}
+use native.Mathlib.Decide.{ℕ-discrete}
 use native.Mathlib.Omega.{arith}
-use lib.Dec.{T, ltb}
-use borrow.Author.Tests.{ltb-false}
+use lib.Dec.{T, eqb, ltb}
+use borrow.Author.Tests.{eq-eqb, ne-eqb, ltb-false}
 use Rattle.rules.specs.Refusal.{Cause, _if_, lowest}
-use Rattle.reader.proofs.Lowest.{named, none-first, none-parts}
+use Rattle.reader.proofs.Lowest.{named, here, later, lowest-none, first-refuses, first-accept, none-first, none-parts}
 
 neither : (b c : Bool) → b || c ≡ false → (b ≡ false) × (c ≡ false)
 neither true c e = absurd (let z : _≡_ {A = ℕ} 0 1 = cc in omega arith)
@@ -28,3 +29,16 @@ pub not-eight : (bs : List Cause) → T (named bs) → {short : Bool} → lowest
 not-eight bs t {short} z =
     let parts = none-parts bs ((8 if short) ∷ []) t z in
     (parts .0, none-first 8 short [] (parts .1) (λ q. omega arith) .0)
+
+-- .. and where the others give the number r, these and 8 give what the code answers
+pub eight-behind : (bs : List Cause) → T (named bs) → (short : Bool) {r : ℕ} → r ≡ lowest bs
+    → cond (eqb r 0) (cond short 8 0) r ≡ lowest (bs ++ (8 if short) ∷ [])
+eight-behind bs t short {r} e = go (ℕ-discrete r 0)
+  where
+    eight : (b : Bool) → cond b 8 0 ≡ lowest ((8 if b) ∷ [])
+    eight true = here 8 true [] refl
+    eight false = later 8 false [] refl lowest-none
+
+    go : Dec (r ≡ 0) → cond (eqb r 0) (cond short 8 0) r ≡ lowest (bs ++ (8 if short) ∷ [])
+    go (yes z) = simp (eq-eqb r 0 z) (eight short ∙ sym (first-accept bs _ t (sym e ∙ z)))
+    go (no h) = simp (ne-eqb r 0 h) (first-refuses bs _ e h)

@@ -1,6 +1,6 @@
 -- A settled setting: what its numbers give the engine, and what the engine's answers say of the setting.
 use mathlib.Core.Path.{_≡_, refl, sym, _∙_}
-use mathlib.Core.Bool.{Bool, _&&_}
+use mathlib.Core.Bool.{_&&_}
 use mathlib.Core.List.{List}
 use Prim.Native.Nat.{ℕ, _+_, _*_, _≤_}
 use native.Mathlib.Nat.{mul-le-mul-right}
@@ -44,7 +44,9 @@ module _ {S : Setting} {t : Terms} (h : Settled S t) where
 
   -- so many slots of a curve are among those of R
   slots : (m : ℕ) → m ≤ ℓ S + S .k + 4 → m * ((t .l + 1) * t .w) ≤ t .room
-  slots m l = rw (← size-is, h .is-size) (omega (arith, mul-le-mul-right {m = m} {n = ℓ S + S .k + 4} (curve-length S) l, h .accepted .slots))
+  slots m l =
+      let among = mul-le-mul-right {m = m} {n = ℓ S + S .k + 4} (curve-length S) l in
+      rw (← size-is, h .is-size) (omega (arith, among, h .accepted .slots))
 
   list-most : t .l * S .k ≤ 1536
   list-most = rw (h .is-ℓ) (h .accepted .output-most)
@@ -71,7 +73,8 @@ module _ {S : Setting} {t : Terms} (h : Settled S t) where
       enough = rw (g .points-long, h .is-s, h .is-W, h .is-ℓ) (h .accepted .passed .enough);
     }
 
-    pub readable : Pair (S .p) (S .n) points (S .n) word → {output curve work : List ℕ} → t .list ≤ length output → t .size ≡ length curve → t .room ≡ length work
+    pub readable : Pair (S .p) (S .n) points (S .n) word → {output curve work : List ℕ}
+        → t .list ≤ length output → t .size ≡ length curve → t .room ≡ length work
         → Readable (t .q) (S .k) (t .w) (t .l) (t .s) points word output curve work
     readable g list whole room = record {
       findable = findable g whole room;
@@ -82,8 +85,10 @@ module _ {S : Setting} {t : Terms} (h : Settled S t) where
     }
 
     module _ {Q : List ℕ} where
-      pub listable : Proposed (S .p) (S .n) points word (t .size) Q → T (passes (ops (t .q)) (S .k) (t .w) (t .l) (triples (t .s) points word) Q)
-          → {output work : List ℕ} → t .list ≤ length output → t .room ≡ length work → Listable (t .q) (S .k) (t .w) (t .l) (t .s) points word Q output work
+      pub listable : Proposed (S .p) (S .n) points word (t .size) Q
+          → T (passes (ops (t .q)) (S .k) (t .w) (t .l) (triples (t .s) points word) Q)
+          → {output work : List ℕ} → t .list ≤ length output → t .room ≡ length work
+          → Listable (t .q) (S .k) (t .w) (t .l) (t .s) points word Q output work
       listable u passing list room = record {
         worded = worded (u .given);
         symbols = rw (h .is-p) (u .given .symbols-under);
@@ -101,7 +106,8 @@ module _ {S : Setting} {t : Terms} (h : Settled S t) where
     fits-is = rw (h .is-p, h .is-s, h .is-W, h .is-ℓ) refl
 
     -- what finding leaves may be used
-    pub usable-is : length Q ≡ (t .l + 1) * t .w → T (under (t .q) Q) → T (passes (ops (t .q)) (S .k) (t .w) (t .l) (triples (t .s) points word) Q)
+    pub usable-is : length Q ≡ (t .l + 1) * t .w → T (under (t .q) Q)
+        → T (passes (ops (t .q)) (S .k) (t .w) (t .l) (triples (t .s) points word) Q)
         → T (usable S points word Q)
     unfolding usable
     usable-is l u p =
@@ -112,7 +118,9 @@ module _ {S : Setting} {t : Terms} (h : Settled S t) where
     -- w is s·(n−τ), so a score of at least w is an agreement in at least n−τ places
     pub list-is : scoring-roots (t .q) (S .k) (t .w) (t .l) (t .s) points word Q ≡ list-of S points word Q
     unfolding list-of listed W
-    list-is = rw (h .is-p, h .is-s, h .is-W, h .is-ℓ) (sifted-times (ops (S .p)) (S .s) _ points word _ (h .accepted .passed .ranged .s-least))
+    list-is =
+        let times = sifted-times (ops (S .p)) (S .s) _ points word _ (h .accepted .passed .ranged .s-least) in
+        rw (h .is-p, h .is-s, h .is-W, h .is-ℓ) times
 
     pub tried-is : beginnings (ops (t .q)) (S .k) (rows (t .w) (t .l + 1) Q) ≡ tried-of S Q
     unfolding tried-of

@@ -1,6 +1,6 @@
 -- What the engine is told of a setting: its refusal number, and where that is 0 its numbers.
 use mathlib.Core.Path.{_≡_}
-use Prim.Native.Nat.{ℕ, _*_}
+use Prim.Native.Nat.{_*_}
 use Rattle.rules.specs.Setting.{Setting, W, ℓ, curve-length, R}
 use Rattle.rules.specs.Refusal.{setting-refusal}
 use Rattle.setting.specs.Accepted.{Accepted}

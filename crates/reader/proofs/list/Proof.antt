@@ -1,4 +1,5 @@
--- list: the setting's refusal decides, then that of the slices and the rooms, then whether the curve passes; and its scoring roots are listed.
+-- list: the setting's refusal decides, then that of the slices and the rooms, then whether the curve passes.
+-- Where it does, its roots that score enough are listed.
 use mathlib.Core.Path.{_∙_}
 use Rattle.setting.specs.Call.{asked}
 use Rattle.reader.proofs.Settled.{worded, size-is}
@@ -15,7 +16,8 @@ posed c = c .before .before .before .before
 tested : (c : tie.After-of-listing) → let x = posed c .before .before .before .before .before .before .args in
     ListTested (asked (x .p) (x .n) (x .k) (x .s) (x .tau)) (posed c .of-setting .result)
     (x .points .now) (x .word .now) (x .curve .now) (x .output .now) (x .work .now) (c .of-listing .result)
-tested c = list-tested (posed c .of-setting .ensures) _ _ _ _ _ (c .before .before .if1 .left) (c .before .either-short .ensures) (c .of-listing .ensures)
+tested c = list-tested (posed c .of-setting .ensures) _ _ _ _ _ (c .before .before .if1 .left)
+    (c .before .either-short .ensures) (c .of-listing .ensures)
 
 -- from where the engine has answered back to where the curve is known to pass
 abbrev passing : tie.After-list → tie.Else3

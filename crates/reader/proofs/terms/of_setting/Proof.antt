@@ -1,6 +1,6 @@
 -- of_setting: what the setting call derives fits, and is what the definitions name.
 use mathlib.Core.Path.{_≡_, refl, sym, _∙_}
-use Prim.Native.Nat.{ℕ, _+_, _*_}
+use Prim.Native.Nat.{_+_, _*_}
 use Rattle.prime.proofs.Below.{modulus-small}
 use Rattle.rules.specs.Setting.{Setting, curve-length}
 use Rattle.setting.specs.Call.{asked}
@@ -56,7 +56,7 @@ returns-2 c =
     let b = c .before .before .before in
     let h = numbers b in
     record {
-      refusal = sym (c .before .before .before .if1 .left) ∙ refusal-is (setting (b .before .before)) _ (b .before .before .derive .ensures);
+      refusal = sym (b .if1 .left) ∙ refusal-is (setting (b .before .before)) _ (b .before .before .derive .ensures);
       settled = λ z. record {
         accepted = h .accepted;
         is-p = refl;
