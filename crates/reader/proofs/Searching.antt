@@ -1,34 +1,30 @@
--- What listing asks of the search and of sifting, and what it then leaves.
+-- What word::list asks of the search and of sifting, and what it then leaves.
 use mathlib.Core.Path.{_≡_, ap₂}
-use mathlib.Core.Bool.{not, _&&_}
+use mathlib.Core.Bool.{not}
 use mathlib.Core.List.{List}
 use Prim.Native.Nat.{ℕ, _+_, _*_, _≤_}
 use native.Mathlib.Nat.{mul-le-mul-right}
 use native.Mathlib.Omega.{arith}
 use lib.Dec.{T}
 use lib.ListN.{length}
-use Rattle.rules.specs.Lists.{all}
 use Rattle.rules.specs.Field.{ops}
 use Rattle.rules.specs.Code.{triples, zeros, messages, sifted}
-use Rattle.rules.specs.Curve.{weighted, through, passes}
+use Rattle.rules.specs.Curve.{weighted}
 use Rattle.rules.specs.Search.{roots, listed}
 use Rattle.rules.specs.Outcome.{over}
-use Rattle.rules.proofs.Tests.{both}
 use Rattle.algebra.proofs.Complete.{messages-long}
 use Rattle.search.specs.Search.{Asked, Roots, roots-of, none}
 use Rattle.search.specs.declared.Tally.{Tally}
 use Rattle.reader.specs.Word.{Listable, scoring-roots}
 use Rattle.reader.specs.Sift.{Scorable, enough}
+use Rattle.reader.proofs.Answers.{passing-parts}
 use Rattle.reader.proofs.Times.{times, times-triples, times-long, times-small}
 use Rattle.reader.proofs.Scoring.{under-at}
 use Rattle.reader.proofs.Runs.{keep-long, rows-flat}
 
 module _ {q k w l s : ℕ} {points word curve output work : List ℕ} (h : Listable q k w l s points word curve output work) where
-  split : T (not (zeros (ops q) curve)) × T (weighted (ops q) k w l curve)
-  unfolding passes
-  split =
-      let t = both (not (zeros (ops q) curve) && weighted (ops q) k w l curve) (all (through (ops q) w l curve) (triples s points word)) (h .passing) in
-      both (not (zeros (ops q) curve)) (weighted (ops q) k w l curve) (t .0)
+  parts : T (not (zeros (ops q) curve)) × T (weighted (ops q) k w l curve)
+  parts = passing-parts q k w l (triples s points word) curve (h .passing)
 
   pub searchable : (found : List ℕ) → length found ≡ 1536 → Asked q k w l curve work found none
   searchable found len = record {
@@ -39,8 +35,8 @@ module _ {q k w l s : ℕ} {points word curve output work : List ℕ} (h : Lista
     tall = h .worded .shape .few;
     long = h .whole;
     low = under-at q curve (h .small);
-    live = split .0;
-    fits = split .1;
+    live = parts .0;
+    fits = parts .1;
     slots = h .slots;
     room = let e : 0 + l ≡ l = omega arith in rw e (omega (arith, h .list));
     count = omega (arith, h .list);
@@ -65,4 +61,5 @@ module _ {q k w l s : ℕ} {points word curve output work : List ℕ} (h : Lista
     unfolding listed roots
     enough-is =
         ap₂ (sifted (ops q) w) (times-triples (h .worded))
-        (rw (g .found, g .list) (unfold over in rows-flat k (roots-of q k w l curve) _ (keep-long k _ (messages (ops q) k) (messages-long (ops q) k))))
+        (rw (g .found, g .list) (unfold over in
+        rows-flat k (roots-of q k w l curve) _ (keep-long k _ (messages (ops q) k) (messages-long (ops q) k))))

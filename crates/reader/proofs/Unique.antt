@@ -4,7 +4,21 @@ use mathlib.Core.Bool.{Bool}
 use mathlib.Core.List.{List}
 use Prim.Native.Nat.{ℕ}
 use Rattle.rules.specs.Setting.{Setting}
-use Rattle.rules.specs.Outcome.{Encoded, Checked, Finding, Finds, Listing, Reading, Reads, used, encode-call, check-call, find-call, list-call, read-call}
+use Rattle.rules.specs.Outcome.{
+  Encoded,
+  Checked,
+  Finding,
+  Finds,
+  Listing,
+  Reading,
+  Reads,
+  used,
+  encode-call,
+  check-call,
+  find-call,
+  list-call,
+  read-call,
+}
 use Rattle.reader.specs.Calls.{encoded, checked}
 
 -- the refusal numbers r, r′ and what the output then holds

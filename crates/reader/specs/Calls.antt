@@ -18,7 +18,14 @@ abbrev pub listing : ℕ → ℕ → ℕ → List ℕ → List ℕ → Listing
 listing refusal found tried output work = record { refusal = refusal; found = found; tried = tried; output = output; work = work }
 
 abbrev pub reading : ℕ → ℕ → ℕ → List ℕ → List ℕ → List ℕ → Reading
-reading refusal found tried output curve work = record { refusal = refusal; found = found; tried = tried; output = output; curve = curve; work = work }
+reading refusal found tried output curve work = record {
+  refusal = refusal;
+  found = found;
+  tried = tried;
+  output = output;
+  curve = curve;
+  work = work;
+}
 
 -- what is answered where nothing is listed: the refusal number, or 0 of finding
 abbrev pub nothing : ℕ → Outcome

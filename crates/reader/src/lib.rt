@@ -1,4 +1,5 @@
-// The public calls of document 01. Each tests its refusals in the table's order, and then asks the engine.
+// The public calls of document 01. Each tests its refusals in the table's order, and then asks the engine:
+// curve, finder and search, by way of `word` and `writing`.
 ghost use mathlib.Core.Path.{_≡_};
 ghost use Rattle.rules.specs.Outcome.{encode-call, check-call, list-call, Finds, Reads};
 ghost use Rattle.setting.specs.Call.{asked};
@@ -17,14 +18,16 @@ pub struct Checked {
     pub yes: bool,
 }
 
-// What finding, listing and reading answer: the refusal number or 0, and the list length and the beginnings tried, which are 0 where they refuse.
+// What finding, listing and reading answer: the refusal number or 0, the list length, and how many beginnings were tried.
+// The last two are 0 where a call refuses, and of finding always.
 pub struct Outcome {
     pub refusal: u16,
     pub found: usize,
     pub tried: usize,
 }
 
-// Writing a patch: the values of the message's polynomial at the points, n numbers at the front of the output. The answer is the refusal number, or 0.
+// Writing a patch: the values of the message's polynomial at the points, n numbers at the front of the output.
+// The answer is the refusal number, or 0.
 pub fn encode(
     p: usize,
     n: usize,
@@ -76,7 +79,7 @@ pub fn check(
     }
 }
 
-// No list, and no beginnings.
+// The answer with this refusal number, no list and no beginnings.
 fn empty(number: u16) -> Outcome
     ensures { λ r. ⌜ r ≡ nothing number ⌝ }
 {

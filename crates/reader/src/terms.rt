@@ -3,7 +3,8 @@ ghost use mathlib.Core.Path.{_≡_};
 ghost use Rattle.setting.specs.Call.{asked};
 ghost use Rattle.reader.specs.Terms.{Posed};
 
-// The refusal number of the setting, and where it is 0: p and s as wide as symbols, W, ℓ, and the three rooms, for a curve (ℓ+1)·W, for a list ℓ·k and for work R.
+// The refusal number of the setting. Where it is 0: p and s as wide as symbols, W and ℓ, and three rooms:
+// `size` of a curve, (ℓ+1)·W; `list` of the longest list, ℓ·k; and `room` of work, R.
 pub struct Terms {
     pub refusal: u16,
     pub q: u16,
@@ -15,7 +16,7 @@ pub struct Terms {
     pub room: usize,
 }
 
-// Where the setting is refused the numbers are not asked for.
+// A refused setting has no numbers: nobody reads these zeros.
 fn refused(number: u16) -> Terms
     ensures { λ r. ⌜ r .refusal ≡ number ⌝ }
 {
@@ -31,7 +32,7 @@ fn refused(number: u16) -> Terms
     }
 }
 
-// The setting's refusal and its numbers.
+// What the setting call says, turned into terms.
 pub fn of_setting(p: usize, n: usize, k: usize, s: usize, tau: usize) -> Terms
     ensures { λ r. ⌜ Posed (asked p n k s tau) r ⌝ }
 {

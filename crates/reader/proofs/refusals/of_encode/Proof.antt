@@ -39,4 +39,13 @@ returns-3 c =
     (holds (b .before .code-in-ranges .ensures) (b .if2 .left))
 
 pub of-encode-spec : {M : Type 1} → statement M
-of-encode-spec = tie.close (tie.spec is-modulus-requires returns code-in-ranges-requires returns-2 of-pair-requires or-eight-requires returns-3)
+of-encode-spec =
+    tie.close
+    (tie.spec
+    is-modulus-requires
+    returns
+    code-in-ranges-requires
+    returns-2
+    of-pair-requires
+    or-eight-requires
+    returns-3)

@@ -17,7 +17,7 @@ returns : tie.Need-returns
 returns c =
     let x = c .before .before .before .before .before .before .before .args in
     let no-more = ap (leb (x .m)) (sym (c .before .score .ensures)) ∙ lt-leb (x .m) _ (c .if1 .taken) in
-    (simp no-more, simp no-more)
+    record { number = simp no-more; written = simp no-more }
 
 mul-a : tie.Need-mul-a
 mul-a c = search needs
@@ -54,7 +54,7 @@ returns-2 c =
     let a = x .kept * n in
     let enough = ap (leb (x .m)) (sym (b .before .score .ensures)) ∙ le-leb (x .m) _ (b .if1 .left) in
     let put = ap (putMid a (a + n - a) (x .output .now)) (c .before .before .copy .ensures) in
-    (simp enough, simp enough (put ∙ put-is a n (x .output .now) (x .message .now)))
+    record { number = simp enough; written = simp enough (put ∙ put-is a n (x .output .now) (x .message .now)) }
 
 pub keep-spec : {M : Type 1} → statement M
 keep-spec =

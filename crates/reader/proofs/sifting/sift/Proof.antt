@@ -3,13 +3,9 @@ use mathlib.Core.Path.{_≡_, refl, _∙_}
 use mathlib.Core.List.{List}
 use Prim.Native.Nat.{ℕ, _+_, _-_, _*_, _≤_}
 use native.Mathlib.Nat.{mul-le-mul-right}
-use lib.Dec.{leb}
 use lib.ListN.{length, take, drop}
-use Rattle.rules.specs.Field.{ops}
-use Rattle.rules.specs.Code.{score}
-use Rattle.curve.specs.Triples.{tripled}
 use Rattle.buffers.proofs.Rows.{row-fits}
-use Rattle.reader.specs.Sift.{Sifted}
+use Rattle.reader.specs.Sift.{scores, Sifted}
 use Rattle.reader.proofs.Kept.{at-most, run-is, run-long, sift-none, sift-more}
 use native.Mathlib.Omega.{arith}
 use borrow.Author.Needs.{needs}
@@ -85,12 +81,11 @@ loop-again c =
     let x = entry b .args in
     let l = b .before .loop in
     let r = c .before .before .keep .ensures in
-    let enough = leb (x .m) (score (ops (x .q)) (tripled (x .points .now) (x .word .now) (x .times .now)) (message b)) in (
+    let enough = scores (x .q) (x .m) (x .points .now) (x .word .now) (x .times .now) (message b) in (
       search needs,
-      omega (arith, l .inv .1, r .0, at-most enough (l .kept)),
+      omega (arith, l .inv .1, r .number, at-most enough (l .kept)),
       c .before .before .keep .kept .1 .1 .1 .1 .1 .1 .1 .0 ∙ l .inv .2,
-      sift-more _ _ _ _ _ _ _ _ (l .i) (l .kept) _ (l .inv .3) (run-is _ (x .k) (x .found .now)) (long b) (omega (arith, within b))
-          (r .0) (r .1),
+      sift-more _ _ _ _ _ _ _ _ (l .i) (l .kept) _ (l .inv .3) (run-is _ (x .k) (x .found .now)) (long b) (omega (arith, within b)) r,
     )
 
 same-length : tie.Need-same-length Inv-loop μ-loop
