@@ -1,3 +1,4 @@
+-- The proofs of crate reader: slices and refusal numbers, then the engine's part, then the calls, and last what holds of every outcome.
 mod Scan
 mod Answers
 mod Patch
@@ -5,14 +6,14 @@ mod Front
 pub mod Lowest
 mod Pair
 mod Rooms
-mod First
-mod Settled
-mod Encoding
 mod Times
 mod Scoring
 mod Runs
 mod Kept
 mod Searching
+mod First
+mod Settled
+mod Encoding
 mod Checking
 mod Finding
 mod Listing

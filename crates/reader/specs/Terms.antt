@@ -17,6 +17,7 @@ pub record Settled (S : Setting) (t : Terms) : Type 0 where
   pub is-list : t .list ≡ ℓ S * S .k
   pub is-R : t .room ≡ R S
 
+-- the number is the setting's, and where it is 0 so are the others
 pub record Posed (S : Setting) (t : Terms) : Type 0 where
   pub refusal : t .refusal ≡ setting-refusal S
   pub settled : t .refusal ≡ 0 → Settled S t

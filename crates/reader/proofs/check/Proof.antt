@@ -11,6 +11,7 @@ use Rattle.reader.proofs.check.Tie as tie
 abbrev posed : tie.After-of-proposed → tie.After-of-setting
 posed c = c .before .before .before
 
+-- what is known from there on
 tested : (c : tie.After-of-proposed) → let x = posed c .before .before .before .before .args in
     CheckTested (asked (x .p) (x .n) (x .k) (x .s) (x .tau)) (posed c .of-setting .result)
     (x .points .now) (x .word .now) (x .curve .now) (c .of-proposed .result)

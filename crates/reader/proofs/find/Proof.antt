@@ -10,6 +10,7 @@ use Rattle.reader.proofs.find.Tie as tie
 abbrev posed : tie.After-of-word → tie.After-of-setting
 posed c = c .before .before .before .before
 
+-- what is known from there on
 tested : (c : tie.After-of-word) → let x = posed c .before .before .before .before .before .args in
     FindTested (asked (x .p) (x .n) (x .k) (x .s) (x .tau)) (posed c .of-setting .result)
     (x .points .now) (x .word .now) (x .curve .now) (x .work .now) (c .of-word .result)
@@ -17,8 +18,8 @@ tested c = find-tested (posed c .of-setting .ensures) (c .before .before .if1 .l
     (c .before .either-short .ensures) (c .of-word .ensures)
 
 -- from where the engine has answered back to where the refusals let it be asked
-abbrev let-on : tie.After-find → tie.Else2
-let-on c = c .before .before .before
+abbrev accepted : tie.After-find → tie.Else2
+accepted c = c .before .before .before
 
 of-setting-requires : tie.Need-of-setting-requires
 of-setting-requires c κs = search needs
@@ -74,7 +75,7 @@ same-length-2 c = search needs
 returns-3 : tie.Need-returns-3
 returns-3 c =
     let e = c .before .before .before .before .before in
-    find-accepted (tested (let-on e .before)) (let-on e .if2 .left) (e .find .ensures) (c .empty3 .ensures)
+    find-accepted (tested (accepted e .before)) (accepted e .if2 .left) (e .find .ensures) (c .empty3 .ensures)
 
 pub find-spec : {M : Type 1} → statement M
 find-spec =

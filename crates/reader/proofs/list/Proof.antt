@@ -13,6 +13,7 @@ use Rattle.reader.proofs.list.Tie as tie
 abbrev posed : tie.After-of-listing → tie.After-of-setting
 posed c = c .before .before .before .before
 
+-- what is known from there on
 tested : (c : tie.After-of-listing) → let x = posed c .before .before .before .before .before .before .args in
     ListTested (asked (x .p) (x .n) (x .k) (x .s) (x .tau)) (posed c .of-setting .result)
     (x .points .now) (x .word .now) (x .curve .now) (x .output .now) (x .work .now) (c .of-listing .result)

@@ -10,14 +10,15 @@ use Rattle.reader.proofs.read.Tie as tie
 abbrev posed : tie.After-of-word → tie.After-of-setting
 posed c = c .before .before .before .before
 
+-- what is known from there on
 tested : (c : tie.After-of-word) → let x = posed c .before .before .before .before .before .before .args in
     ReadTested (asked (x .p) (x .n) (x .k) (x .s) (x .tau)) (posed c .of-setting .result)
     (x .points .now) (x .word .now) (x .output .now) (x .curve .now) (x .work .now) (c .of-word .result)
 tested c = read-tested (posed c .of-setting .ensures) (c .before .before .if1 .left) (c .before .any-short .ensures) (c .of-word .ensures)
 
 -- from where the engine has answered back to where the refusals let it be asked
-abbrev let-on : tie.After-read → tie.Else2
-let-on c = c .before .before .before .before
+abbrev accepted : tie.After-read → tie.Else2
+accepted c = c .before .before .before .before
 
 of-setting-requires : tie.Need-of-setting-requires
 of-setting-requires c κs = search needs
@@ -73,7 +74,7 @@ same-length-3 c = search needs
 returns-3 : tie.Need-returns-3
 returns-3 c =
     let e = c .before .before .before .before .before .before in
-    read-accepted (tested (let-on e .before)) (let-on e .if2 .left) (e .read .ensures .0) (e .read .ensures .1)
+    read-accepted (tested (accepted e .before)) (accepted e .if2 .left) (e .read .ensures .0) (e .read .ensures .1)
 
 pub read-spec : {M : Type 1} → statement M
 read-spec =
