@@ -30,7 +30,8 @@ module _ (p n k : ℕ) (points message : List ℕ) (room : ℕ) where
   encode-refuses-2 a b = simp (a, b)
 
   -- the causes behind the first two
-  pub encode-rest : modulus p ≡ true → code-ranges n k ≡ true → lowest (pair-causes p n points k message ++ (8 if ltb room n) ∷ []) ≡ encode-refusal p n k points message room
+  pub encode-rest : modulus p ≡ true → code-ranges n k ≡ true
+      → lowest (pair-causes p n points k message ++ (8 if ltb room n) ∷ []) ≡ encode-refusal p n k points message room
   unfolding encode-refusal lowest pair-causes
   encode-rest a b = simp (a, b)
 

@@ -1,88 +1,88 @@
--- When finding refuses and with which number, and which outcomes are allowed.
-use mathlib.Core.Path.{_≡_, refl, sym, ap, _∙_}
-use mathlib.Core.Bool.{Bool, true, false, _||_}
+-- find, return by return: what it knows there, and that its outcome is allowed.
+use mathlib.Core.Path.{_≡_, refl, sym, _∙_}
+use mathlib.Core.Bool.{Bool, _||_}
 use mathlib.Core.List.{List, [], _∷_, _++_}
 use Prim.Native.Nat.{ℕ, _-_, _≤_}
-use native.Mathlib.Omega.{arith}
-use lib.Dec.{T, ltb}
-use lib.ListN.{length, drop, replicate, length-replicate}
-use lib.Seq.{take-at}
-use borrow.Author.Tests.{ne-eqb, ltb-false}
-use borrow.Rule.Slice.PartMut.{putMid}
-use Rattle.rules.specs.Setting.{Setting, curve-length, R}
-use Rattle.rules.specs.Refusal.{Cause, _if_, lowest, setting-causes, setting-refusal, word-causes, find-refusal}
-use Rattle.rules.specs.Outcome.{over, cleared, usable, used, find-call, Finds}
-use Rattle.reader.specs.Calls.{finding}
+use lib.Dec.{ltb}
+use lib.ListN.{length}
+use borrow.Author.Tests.{ne-eqb}
+use borrow.Rule.Slice.PartMut.{midOf, putMid}
+use Rattle.rules.specs.Setting.{Setting}
+use Rattle.rules.specs.Refusal.{_if_, lowest, word-causes, find-refusal}
+use Rattle.rules.specs.Outcome.{find-call, Finds}
+use Rattle.reader.specs.declared.Outcome.{Outcome}
+use Rattle.reader.specs.declared.terms.Terms.{Terms}
+use Rattle.reader.specs.Terms.{Settled, Posed}
+use Rattle.reader.specs.Calls.{finding, nothing}
 use Rattle.reader.specs.Causes.{pair-causes}
-use Rattle.reader.proofs.Lowest.{named, first-refuses, first-accept, none-first, none-parts}
-use Rattle.reader.proofs.Front.{over-front}
-use Rattle.reader.proofs.Checking.{setting-named}
+use Rattle.reader.specs.Word.{Findable, Passed}
+use Rattle.reader.proofs.First.{setting-refuses, others-decide}
+use Rattle.reader.proofs.Pair.{Pair, pair, pair-named}
+use Rattle.reader.proofs.Rooms.{two-rooms, not-eight}
+use Rattle.reader.proofs.Front.{length-front, over-front, used-over, cleared-front}
+use Rattle.reader.proofs.Settled as settled
 
--- what is written over a buffer is used again
-pub used-over : (S : Setting) (Q curve : List ℕ) → length Q ≡ curve-length S → used S (over Q curve) ≡ Q
-unfolding over
-used-over S Q curve e = take-at Q (drop (length Q) curve) (curve-length S) e
+-- where nothing is refused: n points and symbols, and room for the curve and for work
+pub record FindGranted (S : Setting) (t : Terms) (points word curve work : List ℕ) : Type 0 where
+  pub given : Pair (S .p) (S .n) points (S .n) word
+  pub curve-fits : t .size ≤ length curve
+  pub work-fits : t .room ≤ length work
 
--- a lent front that comes back clear
-pub cleared-front : (n : ℕ) (work : List ℕ) {front : List ℕ} → front ≡ replicate n 0 → putMid 0 (n - 0) work front ≡ cleared n work
-unfolding cleared
-cleared-front n work {front} e = over-front n work front (ap length e ∙ length-replicate n 0) ∙ ap (λ new. over new work) e
-
--- these causes do not apply, and two rooms are not too short
-pub record Granted (bs : List Cause) (a x b y : ℕ) : Type 0 where
-  pub none : lowest bs ≡ 0
-  pub first : x ≤ a
-  pub second : y ≤ b
-
-neither : (b c : Bool) → b || c ≡ false → (b ≡ false) × (c ≡ false)
-neither true c e = absurd (let z : _≡_ {A = ℕ} 0 1 = cc in omega arith)
-neither false c e = (refl, e)
-
-module _ {short : Bool} (a x b y : ℕ) (is : short ≡ ltb a x || ltb b y) where
-  pub granted : (bs : List Cause) → T (named bs) → lowest (bs ++ (8 if short) ∷ []) ≡ 0 → Granted bs a x b y
-  granted bs t z =
-      let parts = none-parts bs ((8 if short) ∷ []) t z in
-      let long = neither (ltb a x) (ltb b y) (sym is ∙ none-first 8 short [] (parts .1) (λ q. omega arith) .0) in
-      record { none = parts .0; first = ltb-false a x (long .0); second = ltb-false b y (long .1) }
-
-  -- .. said of equal needs
-  pub short-is : {x′ y′ : ℕ} → x ≡ x′ → y ≡ y′ → short ≡ ltb a x′ || ltb b y′
-  short-is f g = rw (← f, ← g) is
-
--- .. and so of three
-module _ {short : Bool} (a x b y c z : ℕ) (is : short ≡ ltb a x || ltb b y || ltb c z) where
-  pub all-granted : (bs : List Cause) → T (named bs) → lowest (bs ++ (8 if short) ∷ []) ≡ 0 → Granted bs a x b y × (z ≤ c)
-  all-granted bs t n =
-      let parts = none-parts bs ((8 if short) ∷ []) t n in
-      let long = neither (ltb a x || ltb b y) (ltb c z) (sym is ∙ none-first 8 short [] (parts .1) (λ q. omega arith) .0) in
-      let two = neither (ltb a x) (ltb b y) (long .0) in
-      (record { none = parts .0; first = ltb-false a x (two .0); second = ltb-false b y (two .1) }, ltb-false c z (long .1))
-
-  pub all-short-is : {x′ y′ z′ : ℕ} → x ≡ x′ → y ≡ y′ → z ≡ z′ → short ≡ ltb a x′ || ltb b y′ || ltb c z′
-  all-short-is f g h = rw (← f, ← g, ← h) is
+-- the number is told
+pub record FindTested (S : Setting) (t : Terms) (points word curve work : List ℕ) (number : ℕ) : Type 0 where
+  pub settled : Settled S t
+  pub is : number ≡ find-refusal S points word (length curve) (length work)
+  pub granted : number ≡ 0 → FindGranted S t points word curve work
 
 module _ (S : Setting) (points word curve work : List ℕ) where
-  pub setting-refuses-find : {r : ℕ} → r ≡ setting-refusal S → ¬ (r ≡ 0) → r ≡ find-refusal S points word (length curve) (length work)
-  unfolding setting-refusal find-refusal
-  setting-refuses-find e h = first-refuses (setting-causes S) _ e h
-
-  pub find-rest : setting-refusal S ≡ 0 → {short : Bool} → short ≡ ltb (length curve) (curve-length S) || ltb (length work) (R S)
-      → lowest (pair-causes (S .p) (S .n) points (S .n) word ++ (8 if short) ∷ []) ≡ find-refusal S points word (length curve) (length work)
-  unfolding setting-refusal find-refusal word-causes pair-causes
-  find-rest z e = rw e (sym (first-accept (setting-causes S) _ (setting-named S) z))
-
-  pub find-refused : {number : ℕ} → number ≡ find-refusal S points word (length curve) (length work) → ¬ (number ≡ 0) → Finds S points word curve work (finding number 0 0 curve work)
+  refused : {number : ℕ} → number ≡ find-refusal S points word (length curve) (length work) → ¬ (number ≡ 0)
+      → {r : Outcome} → r ≡ nothing number → Finds S points word curve work (finding (r .refusal) (r .found) (r .tried) curve work)
   unfolding find-call
-  find-refused {number} e h = record { passes = λ z. absurd (h z); rest = rw (← e) (simp (ne-eqb number 0 h) refl) }
+  refused {number} e h is = rw is (record { passes = λ z. absurd (h z); rest = rw (← e) (simp (ne-eqb number 0 h) refl) })
 
-  -- the lent fronts of both buffers are back
-  pub find-accepted : 0 ≡ find-refusal S points word (length curve) (length work) → {size room : ℕ} → size ≡ curve-length S → room ≡ R S → (Q : List ℕ) {front : List ℕ}
-      → length Q ≡ size → T (usable S points word Q) → front ≡ replicate room 0
-      → Finds S points word curve work (finding 0 0 0 (putMid 0 (size - 0) curve Q) (putMid 0 (room - 0) work front))
-  unfolding find-call
-  find-accepted e {size} {room} is-size is-R Q l u clear =
-      let used-again = used-over S Q curve (l ∙ is-size) in
-      rw (over-front size curve Q l, cleared-front room work clear, is-R) (record {
-        passes = λ z. rw used-again u;
-        rest = rw used-again (rw (← e) refl);
-      })
+module _ {S : Setting} {t : Terms} (posed : Posed S t) {points word curve work : List ℕ} where
+  pub find-unsettled : ¬ (t .refusal ≡ 0) → {r : Outcome} → r ≡ nothing (t .refusal)
+      → Finds S points word curve work (finding (r .refusal) (r .found) (r .tried) curve work)
+  unfolding find-refusal
+  find-unsettled h = refused S points word curve work (setting-refuses posed _ h) h
+
+  pub find-tested : t .refusal ≡ 0 → {short : Bool} → short ≡ ltb (length curve) (t .size) || ltb (length work) (t .room)
+      → {number : ℕ} → number ≡ lowest (pair-causes (S .p) (S .n) points (S .n) word ++ (8 if short) ∷ [])
+      → FindTested S t points word curve work number
+  unfolding find-refusal word-causes pair-causes
+  find-tested z {short} is-short e = record {
+    settled = h;
+    is = e ∙ rw (is-short, h .is-size, h .is-R) (others-decide posed _ z);
+    granted = λ none.
+        let g = not-eight (pair-causes (S .p) (S .n) points (S .n) word) (pair-named (S .p) (S .n) points (S .n) word) (sym e ∙ none) in
+        let rooms = two-rooms (length curve) (t .size) (length work) (t .room) (sym is-short ∙ g .1) in
+        record { given = pair (S .p) (S .n) points (S .n) word (g .0); curve-fits = rooms .0; work-fits = rooms .1 };
+  }
+    where
+      h : Settled S t
+      h = posed .settled z
+
+module _ {S : Setting} {t : Terms} {points word curve work : List ℕ} {number : ℕ} (h : FindTested S t points word curve work number) where
+  pub find-refused : ¬ (number ≡ 0) → {r : Outcome} → r ≡ nothing number
+      → Finds S points word curve work (finding (r .refusal) (r .found) (r .tried) curve work)
+  find-refused = refused S points word curve work (h .is)
+
+  module _ (none : number ≡ 0) where
+    pub findable : Findable (t .q) (S .k) (t .w) (t .l) (t .s) points word (midOf 0 (t .size - 0) curve) (midOf 0 (t .room - 0) work)
+    findable =
+        let g = h .granted none in
+        settled.findable (h .settled) (g .given) (length-front _ _ (g .curve-fits)) (length-front _ _ (g .work-fits))
+
+    -- the lent fronts of both buffers are back
+    pub find-accepted : {Q front : List ℕ} → Passed (t .q) (S .k) (t .w) (t .l) (t .s) points word Q (midOf 0 (t .room - 0) work) front
+        → {r : Outcome} → r ≡ nothing 0 → let curve′ = putMid 0 (t .size - 0) curve Q in let work′ = putMid 0 (t .room - 0) work front in
+        Finds S points word curve work (finding (r .refusal) (r .found) (r .tried) curve′ work′)
+    unfolding find-call
+    find-accepted {Q} f is =
+        let whole = f .whole ∙ sym (settled.size-is (h .settled)) in
+        let used-again = used-over S Q curve (whole ∙ h .settled .is-size) in
+        let clear = cleared-front (t .room) work (h .granted none .work-fits) (f .cleared) in
+        rw (is, over-front (t .size) curve Q whole, clear, h .settled .is-R) (record {
+          passes = λ z. rw used-again (settled.usable-is (h .settled) points word Q (f .whole) (f .small) (f .passing));
+          rest = rw used-again (rw (← h .is, none) refl);
+        })

@@ -1,12 +1,13 @@
--- What is written to the lent front of a buffer stands over what the buffer held.
+-- What is written to the lent front of a buffer stands over what the buffer held, and is found there again.
 use mathlib.Core.Path.{_≡_, sym, ap, _∙_}
 use mathlib.Core.List.{List, _++_}
 use Prim.Native.Nat.{ℕ, _-_, _≤_}
 use native.Mathlib.Omega.{arith}
 use lib.ListN.{length, drop, replicate, length-replicate, getD-replicate}
-use lib.Seq.{ext-getD}
+use lib.Seq.{ext-getD, take-at}
 use borrow.Rule.Slice.PartMut.{midOf, putMid}
-use Rattle.rules.specs.Outcome.{over}
+use Rattle.rules.specs.Setting.{Setting, curve-length}
+use Rattle.rules.specs.Outcome.{over, cleared, used}
 use Rattle.buffers.specs.Change.{Changed}
 use Rattle.buffers.proofs.Change.{changed-front}
 use Rattle.buffers.proofs.Part.{len-mid}
@@ -22,3 +23,16 @@ over-front n old new len = let e : n - 0 ≡ length new = omega arith in ap (λ 
 pub all-clear : {d e : List ℕ} → Changed (λ k. 0) 0 (length d) d e → e ≡ replicate (length d) 0
 all-clear {d} {e} h = ext-getD 0 e _ (h .len ∙ sym (length-replicate (length d) 0))
     (λ i l. changed-front h i (omega (arith, h .len)) ∙ sym (getD-replicate (length d) i 0 0 (omega (arith, h .len))))
+
+-- a curve that is written over a buffer is the one used
+pub used-over : (S : Setting) (Q curve : List ℕ) → length Q ≡ curve-length S → used S (over Q curve) ≡ Q
+unfolding over
+used-over S Q curve e = take-at Q (drop (length Q) curve) (curve-length S) e
+
+-- a lent front that comes back clear
+pub cleared-front : (n : ℕ) (work : List ℕ) → n ≤ length work → {front : List ℕ} → front ≡ replicate (length (midOf 0 (n - 0) work)) 0
+    → putMid 0 (n - 0) work front ≡ cleared n work
+unfolding cleared
+cleared-front n work fits {front} e =
+    let clear = e ∙ ap (λ (m : ℕ). replicate m 0) (sym (length-front n work fits)) in
+    over-front n work front (ap length clear ∙ length-replicate n 0) ∙ ap (λ new. over new work) clear

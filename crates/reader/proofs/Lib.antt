@@ -1,19 +1,22 @@
+-- The proofs of crate reader: slices and refusal numbers, then the engine's part, then the calls, and last what holds of every outcome.
 mod Scan
 mod Answers
 mod Patch
 mod Front
 pub mod Lowest
 mod Pair
-mod Encoding
-mod Shape
+mod Rooms
 mod Times
-mod Checking
-mod Finding
 mod Scoring
 mod Runs
 mod Kept
+mod Searching
+mod First
+mod Settled
+mod Encoding
+mod Checking
+mod Finding
 mod Listing
-mod Listed
-mod Allowed
+mod Reading
 pub mod Readings
 pub mod Unique

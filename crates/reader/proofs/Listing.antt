@@ -1,68 +1,118 @@
--- What listing asks of the search and of sifting, and what it then leaves.
-use mathlib.Core.Path.{_≡_, ap₂}
-use mathlib.Core.Bool.{not, _&&_}
-use mathlib.Core.List.{List}
-use Prim.Native.Nat.{ℕ, _+_, _*_, _≤_}
-use native.Mathlib.Nat.{mul-le-mul-right}
+-- list, return by return: what it knows there, and that it answers as the definition says.
+use mathlib.Core.Path.{_≡_, refl, sym, ap, _∙_}
+use mathlib.Core.Bool.{Bool, true, false, not, _||_}
+use mathlib.Core.List.{List, [], _∷_, _++_, flatten}
+use Prim.Native.Nat.{ℕ, _-_, _≤_}
 use native.Mathlib.Omega.{arith}
-use lib.Dec.{T}
+use lib.Dec.{T, ltb}
 use lib.ListN.{length}
-use Rattle.rules.specs.Lists.{all}
+use borrow.Author.Tests.{ne-eqb}
+use borrow.Rule.Slice.PartMut.{midOf, putMid}
 use Rattle.rules.specs.Field.{ops}
-use Rattle.rules.specs.Code.{triples, zeros, messages, sifted}
-use Rattle.rules.specs.Curve.{weighted, through, passes}
-use Rattle.rules.specs.Search.{roots, listed}
-use Rattle.rules.specs.Outcome.{over}
-use Rattle.rules.proofs.Tests.{both}
-use Rattle.algebra.proofs.Complete.{messages-long}
-use Rattle.search.specs.Search.{Asked, Roots, roots-of, none}
-use Rattle.search.specs.declared.Tally.{Tally}
-use Rattle.reader.specs.Word.{Listable, scoring-roots}
-use Rattle.reader.specs.Sift.{Scorable, enough}
-use Rattle.reader.proofs.Times.{times, times-triples, times-long, times-small}
-use Rattle.reader.proofs.Scoring.{under-at}
-use Rattle.reader.proofs.Runs.{keep-long, rows-flat}
+use Rattle.rules.specs.Code.{triples}
+use Rattle.rules.specs.Curve.{passes}
+use Rattle.rules.specs.Setting.{Setting}
+use Rattle.rules.specs.Refusal.{_if_, lowest, curve-causes, fits, list-refusal}
+use Rattle.rules.specs.Outcome.{over, list-call}
+use Rattle.reader.specs.declared.Outcome.{Outcome}
+use Rattle.reader.specs.declared.terms.Terms.{Terms}
+use Rattle.reader.specs.Terms.{Settled, Posed}
+use Rattle.reader.specs.Calls.{listing, nothing}
+use Rattle.reader.specs.Causes.{proposed-causes}
+use Rattle.reader.specs.Word.{Listable, Listed}
+use Rattle.reader.proofs.Answers.{holds, fails}
+use Rattle.reader.proofs.First.{setting-refuses, others-decide}
+use Rattle.reader.proofs.Lowest.{named, lowest-none, here, later, first-refuses, first-accept}
+use Rattle.reader.proofs.Pair.{Proposed, proposed, proposed-named}
+use Rattle.reader.proofs.Rooms.{two-rooms, not-eight}
+use Rattle.reader.proofs.Front.{length-front, cleared-front}
+use Rattle.reader.proofs.Settled as settled
 
-module _ {q k w l s : ℕ} {points word curve output work : List ℕ} (h : Listable q k w l s points word curve output work) where
-  split : T (not (zeros (ops q) curve)) × T (weighted (ops q) k w l curve)
-  unfolding passes
-  split =
-      let t = both (not (zeros (ops q) curve) && weighted (ops q) k w l curve) (all (through (ops q) w l curve) (triples s points word)) (h .passing) in
-      both (not (zeros (ops q) curve)) (weighted (ops q) k w l curve) (t .0)
+-- where 5 to 8 do not apply: n points and symbols, a whole curve, and room for the list and for work
+pub record ListGranted (S : Setting) (t : Terms) (points word Q output work : List ℕ) : Type 0 where
+  pub given : Proposed (S .p) (S .n) points word (t .size) Q
+  pub output-fits : t .list ≤ length output
+  pub work-fits : t .room ≤ length work
 
-  pub searchable : (found : List ℕ) → length found ≡ 1536 → Asked q k w l curve work found none
-  searchable found len = record {
-    field = h .worded .shape .field;
-    symbols = omega (arith, h .worded .shape .two);
-    few = h .worded .shape .short;
-    wide = h .worded .shape .some;
-    tall = h .worded .shape .few;
-    long = h .whole;
-    low = under-at q curve (h .small);
-    live = split .0;
-    fits = split .1;
-    slots = h .slots;
-    room = let e : 0 + l ≡ l = omega arith in rw e (omega (arith, h .list));
-    count = omega (arith, h .list);
-  }
+-- 5 to 8 are told: where one applies it is the call's refusal, and else 9 decides
+pub record ListTested (S : Setting) (t : Terms) (points word Q output work : List ℕ) (number : ℕ) : Type 0 where
+  pub settled : Settled S t
+  pub refuses : ¬ (number ≡ 0) → number ≡ list-refusal S points word Q (length output) (length work)
+  pub nine : number ≡ 0 → lowest ((9 if not (fits S points word Q)) ∷ []) ≡ list-refusal S points word Q (length output) (length work)
+  pub granted : number ≡ 0 → ListGranted S t points word Q output work
 
-  pub scorable : Scorable q points word (times s (length points))
-  scorable = record {
-    field = h .worded .shape .field;
-    symbols = h .worded .same;
-    multiplicities = times-long (h .worded);
-    places = h .worded .few;
-    few = times-small (h .worded);
-    small = h .symbols;
-  }
+module _ (S : Setting) (points word Q output work : List ℕ) where
+  refused : {number : ℕ} → number ≡ list-refusal S points word Q (length output) (length work) → ¬ (number ≡ 0)
+      → {r : Outcome} → r ≡ nothing number → listing (r .refusal) (r .found) (r .tried) output work ≡ list-call S points word Q output work
+  unfolding list-call
+  refused {number} e h is = rw (is, ← e) (simp (ne-eqb number 0 h) refl)
 
-  module _ {work′ found found′ : List ℕ} {r : Tally} (g : Roots q k w l curve work found work′ found′ r) where
-    pub few-found : r .found * k ≤ l * k
-    few-found = mul-le-mul-right {m = r .found} {n = l} k (omega (arith, g .found, g .few))
+module _ {S : Setting} {t : Terms} (posed : Posed S t) (points word Q output work : List ℕ) where
+  pub list-unsettled : ¬ (t .refusal ≡ 0) → {r : Outcome} → r ≡ nothing (t .refusal)
+      → listing (r .refusal) (r .found) (r .tried) output work ≡ list-call S points word Q output work
+  unfolding list-refusal
+  list-unsettled h = refused S points word Q output work (setting-refuses posed _ h) h
 
-    -- the runs that the search wrote are the roots, and those kept are the definition's
-    pub enough-is : enough q k w points word (times s (length points)) (r .found) found′ ≡ scoring-roots q k w l s points word curve
-    unfolding listed roots
-    enough-is =
-        ap₂ (sifted (ops q) w) (times-triples (h .worded))
-        (rw (g .found, g .list) (unfold over in rows-flat k (roots-of q k w l curve) _ (keep-long k _ (messages (ops q) k) (messages-long (ops q) k))))
+  module _ (z : t .refusal ≡ 0) {short : Bool} (is-short : short ≡ ltb (length output) (t .list) || ltb (length work) (t .room)) where
+    -- 5 to 8, and then 9
+    behind : lowest ((proposed-causes (S .p) (S .n) points word (t .size) Q ++ (8 if short) ∷ []) ++ (9 if not (fits S points word Q)) ∷ [])
+        ≡ list-refusal S points word Q (length output) (length work)
+    unfolding list-refusal curve-causes proposed-causes
+    behind = let h = posed .settled z in rw (is-short, h .is-size, h .is-list, h .is-R) (others-decide posed _ z)
+
+    eight-named : T (named (proposed-causes (S .p) (S .n) points word (t .size) Q ++ (8 if short) ∷ []))
+    unfolding named proposed-causes
+    eight-named = tt
+
+    pub list-tested : {number : ℕ} → number ≡ lowest (proposed-causes (S .p) (S .n) points word (t .size) Q ++ (8 if short) ∷ [])
+        → ListTested S t points word Q output work number
+    list-tested e = record {
+      settled = posed .settled z;
+      refuses = λ some. first-refuses _ _ e some ∙ behind;
+      nine = λ none. sym (first-accept _ _ eight-named (sym e ∙ none)) ∙ behind;
+      granted = λ none.
+          let causes = proposed-causes (S .p) (S .n) points word (t .size) Q in
+          let g = not-eight causes (proposed-named (S .p) (S .n) points word (t .size) Q) (sym e ∙ none) in
+          let rooms = two-rooms (length output) (t .list) (length work) (t .room) (sym is-short ∙ g .1) in
+          record { given = proposed (S .p) (S .n) points word (t .size) Q (g .0); output-fits = rooms .0; work-fits = rooms .1 };
+    }
+
+module _ {S : Setting} {t : Terms} {points word Q output work : List ℕ} {number : ℕ}
+    (h : ListTested S t points word Q output work number) where
+  pub list-refused : ¬ (number ≡ 0) → {r : Outcome} → r ≡ nothing number
+      → listing (r .refusal) (r .found) (r .tried) output work ≡ list-call S points word Q output work
+  list-refused some = refused S points word Q output work (h .refuses some) some
+
+  -- b: whether the curve passes
+  module _ (none : number ≡ 0) {b : Bool} (e : b ≡ passes (ops (t .q)) (S .k) (t .w) (t .l) (triples (t .s) points word) Q) where
+    pub list-fails : not b ≡ true → {r : Outcome} → r ≡ nothing 9
+        → listing (r .refusal) (r .found) (r .tried) output work ≡ list-call S points word Q output work
+    list-fails no-fit =
+        let failing = fails (e ∙ settled.fits-is (h .settled) points word Q) no-fit in
+        refused S points word Q output work (here 9 _ [] (ap not failing) ∙ h .nine none) (λ z. omega arith)
+
+    module _ (fit : not b ≡ false) where
+      pub listable : Listable (t .q) (S .k) (t .w) (t .l) (t .s) points word Q output (midOf 0 (t .room - 0) work)
+      listable =
+          let g = h .granted none in
+          settled.listable (h .settled) (g .given) (rw (holds e fit) tt) (g .output-fits) (length-front _ _ (g .work-fits))
+
+      -- the lent front of work is back
+      pub list-accepted : {output′ front : List ℕ} {r : Outcome}
+          → Listed (t .q) (S .k) (t .w) (t .l) (t .s) points word Q output (midOf 0 (t .room - 0) work) output′ front r
+          → listing (r .refusal) (r .found) (r .tried) output′ (putMid 0 (t .room - 0) work front) ≡ list-call S points word Q output work
+      unfolding list-call
+      list-accepted o =
+          let passing = holds (e ∙ settled.fits-is (h .settled) points word Q) fit in
+          let accepted = later 9 _ [] (ap not passing) lowest-none ∙ h .nine none in
+          let same = settled.list-is (h .settled) points word Q in
+          let clear = cleared-front (t .room) work (h .granted none .work-fits) (o .cleared) in
+          rw (
+            ← accepted,
+            o .refusal,
+            o .found ∙ ap length same,
+            o .tried ∙ settled.tried-is (h .settled) points word Q,
+            o .written ∙ ap (λ fs. over (flatten fs) output) same,
+            clear,
+            h .settled .is-R,
+          ) refl

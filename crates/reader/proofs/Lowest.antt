@@ -39,7 +39,8 @@ unfolding lowest
 first-refuses [] cs e h = absurd (h e)
 first-refuses (c ∷ bs) cs {r} e h = go (c .applies) (λ u. first-refuses bs cs u h) e
   where
-    go : (b : Bool) → (r ≡ lowest bs → r ≡ lowest (bs ++ cs)) → r ≡ cond b (c .number) (lowest bs) → r ≡ cond b (c .number) (lowest (bs ++ cs))
+    go : (b : Bool) → (r ≡ lowest bs → r ≡ lowest (bs ++ cs)) → r ≡ cond b (c .number) (lowest bs)
+        → r ≡ cond b (c .number) (lowest (bs ++ cs))
     go true f e = e
     go false f e = f e
 
@@ -49,7 +50,8 @@ unfolding lowest named
 first-accept [] cs t z = refl
 first-accept (c ∷ bs) cs t z = go (c .applies) (c .number) t z (first-accept bs cs)
   where
-    go : (b : Bool) (n : ℕ) → T (not (eqb n 0) && named bs) → cond b n (lowest bs) ≡ 0 → (T (named bs) → lowest bs ≡ 0 → lowest (bs ++ cs) ≡ lowest cs)
+    go : (b : Bool) (n : ℕ) → T (not (eqb n 0) && named bs) → cond b n (lowest bs) ≡ 0
+        → (T (named bs) → lowest bs ≡ 0 → lowest (bs ++ cs) ≡ lowest cs)
         → cond b n (lowest (bs ++ cs)) ≡ lowest cs
     go true n t z f = absurd (rw (eq-eqb n 0 z) at t)
     go false n t z f = f (both (not (eqb n 0)) (named bs) t .1) z

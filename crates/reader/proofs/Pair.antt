@@ -19,7 +19,8 @@ pub record Pair (p n : ℕ) (points : List ℕ) (m : ℕ) (symbols : List ℕ) :
   pub symbols-under : T (under p symbols)
   pub apart : T (distinct eqb points)
 
-five-to-seven : (a b c d e : Bool) → lowest ((5 if not (a && b)) ∷ (6 if not (c && d)) ∷ (7 if not e) ∷ []) ≡ 0 → T a × T b × T c × T d × T e
+five-to-seven : (a b c d e : Bool) → lowest ((5 if not (a && b)) ∷ (6 if not (c && d)) ∷ (7 if not e) ∷ []) ≡ 0
+    → T a × T b × T c × T d × T e
 unfolding lowest
 five-to-seven true true true true true z = (tt, tt, tt, tt, tt)
 five-to-seven true true true true false z = absurd (omega arith)
@@ -67,7 +68,9 @@ module _ (p n : ℕ) (points word : List ℕ) (size : ℕ) (Q : List ℕ) where
   pub proposed : lowest (proposed-causes p n points word size Q) ≡ 0 → Proposed p n points word size Q
   unfolding proposed-causes pair-causes long
   proposed z =
-      let t = split (eqb (length points) n) (eqb (length word) n) (eqb (length Q) size) (under p points) (under p word) (under p Q) (distinct eqb points) z in
+      let t =
+      split (eqb (length points) n) (eqb (length word) n) (eqb (length Q) size)
+      (under p points) (under p word) (under p Q) (distinct eqb points) z in
       record { given = pair p n points n word (t .0); curve-long = eqb→eq (length Q) size (t .1); curve-under = t .2 }
 
   pub proposed-named : T (named (proposed-causes p n points word size Q))

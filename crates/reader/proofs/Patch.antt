@@ -20,7 +20,8 @@ module _ (q : ℕ) (points message : List ℕ) where
   unfolding encode
   length-patch = length-map points (eval (ops q) message)
 
-  pub patch-is : {d e : List ℕ} (j : ℕ) → Changed (λ i. eval (ops q) message (getD points i 0)) 0 j d e → j ≡ length points → length points ≡ length d
+  pub patch-is : {d e : List ℕ} (j : ℕ) → Changed (λ i. eval (ops q) message (getD points i 0)) 0 j d e
+      → j ≡ length points → length points ≡ length d
       → e ≡ encode (ops q) points message
   unfolding encode
   patch-is {d} {e} j h all same = ext-getD 0 e _ (h .len ∙ sym same ∙ sym length-patch)

@@ -1,4 +1,5 @@
--- Demands 2 and 3 of the calls: an accepted listing or reading gives every message that agrees with the word in at least n−τ places, in order, and tries at most 1 + ℓ·k beginnings.
+-- Demands 2 and 3 of the calls. An accepted listing or reading gives every message that agrees with the word in at least n−τ places,
+-- in order, and tries at most 1 + ℓ·k beginnings.
 use mathlib.Core.Path.{_≡_, refl, sym, ap, _∙_}
 use mathlib.Core.Bool.{Bool, true, false, cond, not, _&&_, _||_}
 use mathlib.Core.List.{List, [], flatten}
@@ -8,10 +9,8 @@ use lib.Dec.{T, eqb, ltb, eqb→eq}
 use lib.ListN.{length}
 use native.Mathlib.Decide.{ℕ-discrete}
 use borrow.Author.Tests.{eqb-true, ne-eqb, not-false}
-use Rattle.rules.specs.Lists.{all}
 use Rattle.rules.specs.Field.{ops}
-use Rattle.rules.specs.Code.{triples, zeros, readings}
-use Rattle.rules.specs.Curve.{weighted, through, passes}
+use Rattle.rules.specs.Code.{triples, readings}
 use Rattle.rules.specs.Setting.{Setting, W, ℓ, curve-length, R}
 use Rattle.rules.specs.Refusal.{setting-causes, setting-refusal, word-causes, curve-causes, long, under, fits, list-refusal, read-refusal}
 use Rattle.rules.specs.Outcome.{Listing, Reading, over, cleared, used, usable, list-of, tried-of, list-call, read-call, Reads}
@@ -21,10 +20,11 @@ use Rattle.search.proofs.Start.{bound}
 use Rattle.setting.specs.Accepted.{Accepted}
 use Rattle.setting.proofs.Accepted.{accepted}
 use Rattle.reader.specs.Causes.{pair-causes, proposed-causes}
+use Rattle.reader.proofs.Answers.{passing-parts}
 use Rattle.reader.proofs.Lowest.{none-first, none-parts}
 use Rattle.reader.proofs.Pair.{Pair, pair, pair-named, proposed, proposed-named}
 use Rattle.reader.proofs.Scoring.{under-at}
-use Rattle.reader.proofs.Checking.{setting-named}
+use Rattle.reader.proofs.First.{setting-named}
 
 -- the list and its length are those of demand 2, and the beginnings are as few as demand 3 says
 pub record Answer (S : Setting) (points word : List ℕ) (found tried : ℕ) (output output′ : List ℕ) : Type 0 where
@@ -43,22 +43,21 @@ module _ (S : Setting) (points word Q : List ℕ) where
 
   module _ (f : Fit) where
     fit-readings : list-of S points word Q ≡ readings (ops (S .p)) (S .k) (S .n - S .τ) points word
-    fit-readings = list-readings S points word Q (f .setting .passed .prime) (omega (arith, f .setting .passed .ranged .code .k-least)) (f .setting .passed .ranged .s-least)
+    fit-readings =
+        let a = f .setting .passed in
+        list-readings S points word Q (a .prime) (omega (arith, a .ranged .code .k-least)) (a .ranged .s-least)
         (unfold under in f .given .points-under) (f .given .apart) (f .passing)
 
-    live : T (not (zeros (ops (S .p)) Q))
-    unfolding fits passes
-    live =
-        let t = both (not (zeros (ops (S .p)) Q) && weighted (ops (S .p)) (S .k) (W S) (ℓ S) Q) (all (through (ops (S .p)) (W S) (ℓ S) Q) (triples (S .s) points word)) (f .passing) in
-        both (not (zeros (ops (S .p)) Q)) (weighted (ops (S .p)) (S .k) (W S) (ℓ S) Q) (t .0) .0
-
     fit-tried : tried-of S Q ≤ 1 + ℓ S * S .k
-    unfolding tried-of curve-length
+    unfolding tried-of curve-length fits
     fit-tried =
-        bound (S .p) (f .setting .passed .prime) (S .k) (W S) (ℓ S) Q (omega (arith, f .setting .W-least, f .setting .passed .ranged .code .k-least)) (f .whole)
+        let a = f .setting in
+        let live = passing-parts (S .p) (S .k) (W S) (ℓ S) (triples (S .s) points word) Q (f .passing) .0 in
+        bound (S .p) (a .passed .prime) (S .k) (W S) (ℓ S) Q (omega (arith, a .W-least, a .passed .ranged .code .k-least)) (f .whole)
         (λ j l. under-at (S .p) Q (f .small) j (omega (arith, f .whole))) live
 
-    answer : (output : List ℕ) → Answer S points word (length (list-of S points word Q)) (tried-of S Q) output (over (flatten (list-of S points word Q)) output)
+    answer : (output : List ℕ) → let fs = list-of S points word Q in
+        Answer S points word (length fs) (tried-of S Q) output (over (flatten fs) output)
     answer output = record { list = ap length fit-readings; written = ap (λ fs. over (flatten fs) output) fit-readings; few = fit-tried }
 
 -- the refusal of an outcome that is chosen by its number
@@ -79,7 +78,8 @@ module _ (S : Setting) (points word Q output work : List ℕ) where
   unfolding list-refusal curve-causes proposed-causes
   list-fit z =
       let first = none-parts (setting-causes S) _ (setting-named S) z in
-      let second = none-parts (proposed-causes (S .p) (S .n) points word (curve-length S) Q) _ (proposed-named (S .p) (S .n) points word (curve-length S) Q) (first .1) in
+      let causes = proposed-causes (S .p) (S .n) points word (curve-length S) Q in
+      let second = none-parts causes _ (proposed-named (S .p) (S .n) points word (curve-length S) Q) (first .1) in
       let rooms = none-first 8 (ltb (length output) (ℓ S * S .k) || ltb (length work) (R S)) _ (second .1) (λ e. omega arith) in
       let last = none-first 9 (not (fits S points word Q)) [] (rooms .1) (λ e. omega arith) in
       let g = proposed (S .p) (S .n) points word (curve-length S) Q (second .0) in
@@ -91,7 +91,8 @@ module _ (S : Setting) (points word Q output work : List ℕ) where
         passing = rw (not-false (fits S points word Q) (last .0)) tt;
       }
 
-  pub list-reads : (o : Listing) → o ≡ list-call S points word Q output work → o .refusal ≡ 0 → Answer S points word (o .found) (o .tried) output (o .output)
+  pub list-reads : (o : Listing) → o ≡ list-call S points word Q output work → o .refusal ≡ 0
+      → Answer S points word (o .found) (o .tried) output (o .output)
   list-reads o e z = rw (e ∙ accepted-is) (answer S points word Q (list-fit none) output)
     where
       none : list-refusal S points word Q (length output) (length work) ≡ 0
@@ -129,7 +130,8 @@ module _ (S : Setting) (points word output curve work : List ℕ) where
         passing = t .1;
       }
 
-  pub read-reads : (o : Reading) → Reads S points word output curve work o → o .refusal ≡ 0 → Answer S points word (o .found) (o .tried) output (o .output)
+  pub read-reads : (o : Reading) → Reads S points word output curve work o → o .refusal ≡ 0
+      → Answer S points word (o .found) (o .tried) output (o .output)
   read-reads o h z = rw (h .rest ∙ accepted-is) (answer S points word Q (read-fit none Q (h .passes z)) output)
     where
       Q : List ℕ
@@ -148,12 +150,21 @@ module _ (S : Setting) (points word output curve work : List ℕ) where
       }
       accepted-is = unfold read-call in rw none refl
 
-  refused-is : ¬ (refusal ≡ 0) → (Q : List ℕ) → read-call S points word output curve work Q ≡ record { refusal = refusal; found = 0; tried = 0; output = output; curve = curve; work = work }
+  refused-is : ¬ (refusal ≡ 0) → (Q : List ℕ)
+      → read-call S points word output curve work Q ≡ record {
+        refusal = refusal;
+        found = 0;
+        tried = 0;
+        output = output;
+        curve = curve;
+        work = work;
+      }
   unfolding read-call
   refused-is n Q = rw (ne-eqb refusal 0 n) refl
 
   -- Whatever the curves, two readings that the contract allows have the same refusal, list length and output.
-  pub read-list-unique : (o o′ : Reading) → Reads S points word output curve work o → Reads S points word output curve work o′ → (o .refusal ≡ o′ .refusal) × (o .found ≡ o′ .found) × (o .output ≡ o′ .output)
+  pub read-list-unique : (o o′ : Reading) → Reads S points word output curve work o → Reads S points word output curve work o′
+      → (o .refusal ≡ o′ .refusal) × (o .found ≡ o′ .found) × (o .output ≡ o′ .output)
   read-list-unique o o′ h h′ = go (ℕ-discrete refusal 0)
     where
       is : (o : Reading) → Reads S points word output curve work o → o .refusal ≡ refusal

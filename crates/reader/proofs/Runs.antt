@@ -2,7 +2,7 @@
 use mathlib.Core.Path.{_≡_, refl, sym, ap, ap₂, _∙_}
 use mathlib.Core.Bool.{Bool, true, false, cond}
 use mathlib.Core.List.{List, [], _∷_, _++_, flatten, append-assoc}
-use Prim.Native.Nat.{ℕ, zero, suc, _+_, _-_, _*_, _≤_}
+use Prim.Native.Nat.{ℕ, zero, suc, _+_, _*_, _≤_}
 use native.Mathlib.Nat.{suc-mul}
 use native.Mathlib.Omega.{arith}
 use lib.ListN.{length, take, drop, length-append, length-drop}
@@ -47,8 +47,9 @@ pub rows-more : (k i : ℕ) (xs : List ℕ) → rows k (suc i) xs ≡ rows k i x
 unfolding rows
 rows-more k zero xs = let e : 0 * k ≡ 0 = omega arith in rw e refl
 rows-more k (suc i) xs =
-    ap (_∷_ (take k xs)) (rows-more k i (drop k xs)
-    ∙ ap (λ ys. rows k i (drop k xs) ++ (take k ys ∷ [])) (drop-drop (i * k) k xs ∙ let e : k + i * k ≡ suc i * k = omega (arith, suc-mul i k) in ap (λ (n : ℕ). drop n xs) e))
+    let e : k + i * k ≡ suc i * k = omega (arith, suc-mul i k) in
+    let next = drop-drop (i * k) k xs ∙ ap (λ (n : ℕ). drop n xs) e in
+    ap (_∷_ (take k xs)) (rows-more k i (drop k xs) ∙ ap (λ ys. rows k i (drop k xs) ++ (take k ys ∷ [])) next)
 
 -- runs that stand at the front are cut as they were
 pub rows-flat : (k : ℕ) (fs : List (List ℕ)) (rest : List ℕ) → Long k fs → rows k (length fs) (flatten fs ++ rest) ≡ fs
@@ -57,12 +58,15 @@ rows-flat k [] rest a = refl
 rows-flat k (f ∷ fs) rest a =
     let e = append-assoc f (flatten fs) rest in
     ap₂ _∷_ (ap (take k) e ∙ take-at f (flatten fs ++ rest) k (a .0))
-    (ap (λ xs. rows k (length fs) (drop k xs)) e ∙ ap (rows k (length fs)) (drop-at f (flatten fs ++ rest) k (a .0)) ∙ rows-flat k fs rest (a .1))
+    (ap (λ xs. rows k (length fs) (drop k xs)) e
+    ∙ ap (rows k (length fs)) (drop-at f (flatten fs ++ rest) k (a .0))
+    ∙ rows-flat k fs rest (a .1))
 
 -- what is put behind what was written over a buffer is written over it too
 pub over-more : (new f old : List ℕ) {a k : ℕ} → length new ≡ a → length f ≡ k → putMid a k (over new old) f ≡ over (new ++ f) old
 unfolding over
 over-more new f old {a} {k} e g =
+    let long = sym (length-append new f ∙ ap (λ (n : ℕ). length new + n) g) in
     ap₂ (λ xs ys. xs ++ (f ++ drop k ys)) (take-at new (drop (length new) old) a e) (drop-at new (drop (length new) old) a e)
-    ∙ ap (λ ys. new ++ (f ++ ys)) (drop-drop k (length new) old ∙ ap (λ (n : ℕ). drop n old) (sym (length-append new f ∙ ap (λ (n : ℕ). length new + n) g)))
+    ∙ ap (λ ys. new ++ (f ++ ys)) (drop-drop k (length new) old ∙ ap (λ (n : ℕ). drop n old) long)
     ∙ sym (append-assoc new f _)

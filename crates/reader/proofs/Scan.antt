@@ -1,4 +1,5 @@
--- A test of a list that goes from its front: it holds where it holds of the first place and of the rest. What is passed changes nothing, and the first failure decides.
+-- A test of a list that goes from its front: it holds where it holds of the first place and of the rest.
+-- What is passed changes nothing, and the first failure decides.
 use mathlib.Core.Path.{_≡_, refl, sym, _∙_, ap}
 use mathlib.Core.Bool.{Bool, true, false, not, _&&_}
 use mathlib.Core.List.{List, [], _∷_}
@@ -36,5 +37,6 @@ unfolding distinct
 distinct-scan = record { none = refl; more = λ x xs. refl }
 
 -- what is_new says of the part behind place i, said of the rest
-pub new-of-part : (xs : List ℕ) (i x : ℕ) {r : Bool} → r ≡ all (λ y. not (eqb x y)) (take (length xs - i) (drop i xs)) → all (λ y. not (eqb x y)) (drop i xs) ≡ r
+pub new-of-part : (xs : List ℕ) (i x : ℕ) {r : Bool} → r ≡ all (λ y. not (eqb x y)) (take (length xs - i) (drop i xs))
+    → all (λ y. not (eqb x y)) (drop i xs) ≡ r
 new-of-part xs i x e = sym (e ∙ ap (all (λ y. not (eqb x y))) (take-all (length xs - i) (drop i xs) (simp length-drop (omega arith))))

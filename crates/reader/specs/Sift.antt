@@ -1,11 +1,13 @@
--- What scoring and sifting need, and what sifting leaves.
+-- What scoring and sifting need, and what keeping one message and sifting all leave.
 use mathlib.Core.Path.{_≡_}
+use mathlib.Core.Bool.{Bool, cond}
 use mathlib.Core.List.{List, flatten}
-use Prim.Native.Nat.{ℕ, _<_, _≤_}
-use lib.Dec.{T}
+use Prim.Native.Nat.{ℕ, _+_, _*_, _<_, _≤_}
+use lib.Dec.{T, leb}
 use lib.ListN.{length, getD}
+use borrow.Rule.Slice.PartMut.{putMid}
 use Rattle.rules.specs.Field.{ops, modulus}
-use Rattle.rules.specs.Code.{sifted}
+use Rattle.rules.specs.Code.{score, sifted}
 use Rattle.rules.specs.Search.{rows}
 use Rattle.rules.specs.Refusal.{under}
 use Rattle.rules.specs.Outcome.{over}
@@ -19,6 +21,15 @@ pub record Scorable (q : ℕ) (points word times : List ℕ) : Type 0 where
   pub places : length points ≤ 64
   pub few : (j : ℕ) → j < length times → getD times j 0 ≤ 4
   pub small : T (under q word)
+
+-- whether the message f scores at least m
+abbrev pub scores : ℕ → ℕ → List ℕ → List ℕ → List ℕ → List ℕ → Bool
+scores q m points word times f = leb m (score (ops q) (tripled points word times) f)
+
+-- where it does, it is counted and stands behind the kept ones; else nothing changes
+pub record Kept (q m : ℕ) (points word times : List ℕ) (kept : ℕ) (f output output′ : List ℕ) (kept′ : ℕ) : Type 0 where
+  pub number : kept′ ≡ cond (scores q m points word times f) (kept + 1) kept
+  pub written : output′ ≡ cond (scores q m points word times f) (putMid (kept * length f) (length f) output f) output
 
 -- the messages, `count` runs of k numbers from the front of a buffer on, whose score is at least m
 abbrev pub enough : ℕ → ℕ → ℕ → List ℕ → List ℕ → List ℕ → ℕ → List ℕ → List (List ℕ)

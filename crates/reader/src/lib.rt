@@ -1,11 +1,13 @@
-// The public calls of document 01. Each tests its refusals in the table's order, and then asks the engine.
+// The public calls of document 01. Each tests its refusals in the table's order, and then asks the engine:
+// curve, finder and search, by way of `word` and `writing`.
 ghost use mathlib.Core.Path.{_≡_};
 ghost use Rattle.rules.specs.Outcome.{encode-call, check-call, list-call, Finds, Reads};
 ghost use Rattle.setting.specs.Call.{asked};
-ghost use Rattle.reader.specs.Calls.{encoded, checked, finding, listing, reading};
+ghost use Rattle.reader.specs.Calls.{encoded, checked, finding, listing, reading, nothing};
 
 mod refusals;
 mod sifting;
+mod terms;
 pub mod tests;
 mod word;
 mod writing;
@@ -16,14 +18,16 @@ pub struct Checked {
     pub yes: bool,
 }
 
-// What finding, listing and reading answer: the refusal number or 0, and the list length and the beginnings tried, which are 0 where they refuse.
+// What finding, listing and reading answer: the refusal number or 0, the list length, and how many beginnings were tried.
+// The last two are 0 where a call refuses, and of finding always.
 pub struct Outcome {
     pub refusal: u16,
     pub found: usize,
     pub tried: usize,
 }
 
-// Writing a patch: the values of the message's polynomial at the points, n numbers at the front of the output. The answer is the refusal number, or 0.
+// Writing a patch: the values of the message's polynomial at the points, n numbers at the front of the output.
+// The answer is the refusal number, or 0.
 pub fn encode(
     p: usize,
     n: usize,
@@ -55,14 +59,14 @@ pub fn check(
 ) -> Checked
     ensures { λ r. ⌜ checked (r .refusal) (r .yes) ≡ check-call (asked p n k s tau) (now (points .entry)) (now (word .entry)) (now (curve .entry)) ⌝ }
 {
-    let d = setting::derive(p, n, k, s, tau);
-    if d.refusal != 0 {
+    let t = terms::of_setting(p, n, k, s, tau);
+    if t.refusal != 0 {
         return Checked {
-            refusal: d.refusal,
+            refusal: t.refusal,
             yes: false,
         };
     }
-    let number = refusals::of_proposed(p, n, points, word, (d.l + 1) * d.w, curve);
+    let number = refusals::of_proposed(p, n, points, word, t.size, curve);
     if number != 0 {
         return Checked {
             refusal: number,
@@ -71,13 +75,13 @@ pub fn check(
     }
     Checked {
         refusal: 0,
-        yes: word::fits(p as u16, k, d.w, d.l, s as u16, points, word, curve),
+        yes: word::fits(t.q, k, t.w, t.l, t.s, points, word, curve),
     }
 }
 
-// No list, and no beginnings.
+// The answer with this refusal number, no list and no beginnings.
 fn empty(number: u16) -> Outcome
-    ensures { λ r. ⌜ (r .refusal ≡ number) × (r .found ≡ 0) × (r .tried ≡ 0) ⌝ }
+    ensures { λ r. ⌜ r ≡ nothing number ⌝ }
 {
     Outcome {
         refusal: number,
@@ -100,23 +104,23 @@ pub fn find(
 ) -> Outcome
     ensures { λ r. ⌜ Finds (asked p n k s tau) (now (points .entry)) (now (word .entry)) (now (curve .entry)) (now (work .entry)) (finding (r .refusal) (r .found) (r .tried) (now (curve .exit)) (now (work .exit))) ⌝ }
 {
-    let d = setting::derive(p, n, k, s, tau);
-    if d.refusal != 0 {
-        return empty(d.refusal);
+    let t = terms::of_setting(p, n, k, s, tau);
+    if t.refusal != 0 {
+        return empty(t.refusal);
     }
-    let size = (d.l + 1) * d.w;
-    let room = d.r;
+    let size = t.size;
+    let room = t.room;
     let short = tests::either_short(curve.len(), size, work.len(), room);
     let number = refusals::of_word(p, n, points, word, short);
     if number != 0 {
         return empty(number);
     }
     word::find(
-        p as u16,
+        t.q,
         k,
-        d.w,
-        d.l,
-        s as u16,
+        t.w,
+        t.l,
+        t.s,
         points,
         word,
         &mut curve[0..size],
@@ -140,26 +144,25 @@ pub fn list(
 ) -> Outcome
     ensures { λ r. ⌜ listing (r .refusal) (r .found) (r .tried) (now (output .exit)) (now (work .exit)) ≡ list-call (asked p n k s tau) (now (points .entry)) (now (word .entry)) (now (curve .entry)) (now (output .entry)) (now (work .entry)) ⌝ }
 {
-    let d = setting::derive(p, n, k, s, tau);
-    if d.refusal != 0 {
-        return empty(d.refusal);
+    let t = terms::of_setting(p, n, k, s, tau);
+    if t.refusal != 0 {
+        return empty(t.refusal);
     }
-    let size = (d.l + 1) * d.w;
-    let room = d.r;
-    let short = tests::either_short(output.len(), d.l * k, work.len(), room);
-    let number = refusals::of_listing(p, n, points, word, size, curve, short);
+    let room = t.room;
+    let short = tests::either_short(output.len(), t.list, work.len(), room);
+    let number = refusals::of_listing(p, n, points, word, t.size, curve, short);
     if number != 0 {
         return empty(number);
     }
-    if !word::fits(p as u16, k, d.w, d.l, s as u16, points, word, curve) {
+    if !word::fits(t.q, k, t.w, t.l, t.s, points, word, curve) {
         return empty(9);
     }
     word::list(
-        p as u16,
+        t.q,
         k,
-        d.w,
-        d.l,
-        s as u16,
+        t.w,
+        t.l,
+        t.s,
         points,
         word,
         curve,
@@ -183,23 +186,23 @@ pub fn read(
 ) -> Outcome
     ensures { λ r. ⌜ Reads (asked p n k s tau) (now (points .entry)) (now (word .entry)) (now (output .entry)) (now (curve .entry)) (now (work .entry)) (reading (r .refusal) (r .found) (r .tried) (now (output .exit)) (now (curve .exit)) (now (work .exit))) ⌝ }
 {
-    let d = setting::derive(p, n, k, s, tau);
-    if d.refusal != 0 {
-        return empty(d.refusal);
+    let t = terms::of_setting(p, n, k, s, tau);
+    if t.refusal != 0 {
+        return empty(t.refusal);
     }
-    let size = (d.l + 1) * d.w;
-    let room = d.r;
-    let short = tests::any_short(output.len(), d.l * k, curve.len(), size, work.len(), room);
+    let size = t.size;
+    let room = t.room;
+    let short = tests::any_short(output.len(), t.list, curve.len(), size, work.len(), room);
     let number = refusals::of_word(p, n, points, word, short);
     if number != 0 {
         return empty(number);
     }
     word::read(
-        p as u16,
+        t.q,
         k,
-        d.w,
-        d.l,
-        s as u16,
+        t.w,
+        t.l,
+        t.s,
         points,
         word,
         output,

@@ -1,6 +1,8 @@
 // The refusal numbers of the calls: the lowest that applies, and 0 where none does.
 ghost use mathlib.Core.Path.{_≡_};
+ghost use mathlib.Core.Bool.{cond};
 ghost use mathlib.Core.List.{[], _∷_, _++_};
+ghost use lib.Dec.{eqb};
 ghost use Rattle.rules.specs.Refusal.{_if_, lowest, encode-refusal};
 ghost use Rattle.reader.specs.Causes.{pair-causes, proposed-causes};
 use crate::tests;
@@ -21,11 +23,10 @@ pub fn of_pair(p: usize, n: usize, points: &[u16], m: usize, symbols: &[u16]) ->
     0
 }
 
-// 5 to 8 for n points and as many symbols, where the rooms are too short or not.
-pub fn of_word(p: usize, n: usize, points: &[u16], word: &[u16], short: bool) -> u16
-    ensures { λ r. ⌜ r ≡ lowest (pair-causes p n (now (points .entry)) n (now (word .entry)) ++ (8 if short) ∷ []) ⌝ }
+// The number that earlier causes give, or 8 where they give none and a room is too short.
+fn or_eight(number: u16, short: bool) -> u16
+    ensures { λ r. ⌜ r ≡ cond (eqb number 0) (cond short 8 0) number ⌝ }
 {
-    let number = of_pair(p, n, points, n, word);
     if number != 0 {
         return number;
     }
@@ -33,6 +34,13 @@ pub fn of_word(p: usize, n: usize, points: &[u16], word: &[u16], short: bool) ->
         return 8;
     }
     0
+}
+
+// 5 to 8 for n points and as many symbols, where the rooms are too short or not.
+pub fn of_word(p: usize, n: usize, points: &[u16], word: &[u16], short: bool) -> u16
+    ensures { λ r. ⌜ r ≡ lowest (pair-causes p n (now (points .entry)) n (now (word .entry)) ++ (8 if short) ∷ []) ⌝ }
+{
+    or_eight(of_pair(p, n, points, n, word), short)
 }
 
 // 5 to 7 for n points, as many symbols, and a proposed curve of that size.
@@ -46,16 +54,10 @@ pub fn of_proposed(
 ) -> u16
     ensures { λ r. ⌜ r ≡ lowest (proposed-causes p n (now (points .entry)) (now (word .entry)) size (now (curve .entry))) ⌝ }
 {
-    if !tests::both_long(n, points, n, word) {
+    if !tests::three_long(n, points, word, size, curve) {
         return 5;
     }
-    if curve.len() != size {
-        return 5;
-    }
-    if !tests::both_below(p, points, word) {
-        return 6;
-    }
-    if !tests::all_below(p, curve) {
+    if !tests::three_below(p, points, word, curve) {
         return 6;
     }
     if !tests::all_distinct(points) {
@@ -76,14 +78,7 @@ pub fn of_listing(
 ) -> u16
     ensures { λ r. ⌜ r ≡ lowest (proposed-causes p n (now (points .entry)) (now (word .entry)) size (now (curve .entry)) ++ (8 if short) ∷ []) ⌝ }
 {
-    let number = of_proposed(p, n, points, word, size, curve);
-    if number != 0 {
-        return number;
-    }
-    if short {
-        return 8;
-    }
-    0
+    or_eight(of_proposed(p, n, points, word, size, curve), short)
 }
 
 // The refusal number of the encode call.
@@ -103,12 +98,5 @@ pub fn of_encode(
     if !setting::code_in_ranges(n, k) {
         return 2;
     }
-    let number = of_pair(p, n, points, k, message);
-    if number != 0 {
-        return number;
-    }
-    if output < n {
-        return 8;
-    }
-    0
+    or_eight(of_pair(p, n, points, k, message), output < n)
 }

@@ -1,14 +1,13 @@
-// Sifting: of the messages in a buffer those that agree with enough of the triples.
+// Sifting: of the messages in a buffer those that agree with enough of the triples of point, symbol and multiplicity.
 ghost use mathlib.Core.Path.{_≡_};
 ghost use mathlib.Core.Bool.{cond};
 ghost use Prim.Native.Nat.{_+_, _*_, _<_, _≤_};
-ghost use lib.Dec.{T, leb};
+ghost use lib.Dec.{T};
 ghost use lib.ListN.{length};
 ghost use Rattle.rules.specs.Field.{ops, modulus};
 ghost use Rattle.rules.specs.Code.{meets, score};
 ghost use Rattle.curve.specs.Triples.{tripled};
-ghost use Rattle.reader.specs.Sift.{Scorable, Sifted};
-ghost use borrow.Rule.Slice.PartMut.{putMid};
+ghost use Rattle.reader.specs.Sift.{Scorable, Kept, Sifted};
 use field::runs::copy;
 use within::eval;
 
@@ -49,7 +48,7 @@ fn keep(
     output: &mut [u16],
 ) -> usize
     requires { ⌜ Scorable q (now points) (now word) (now times) × (kept < 65536) × (kept * length (now message) + length (now message) ≤ length (now output)) ⌝ }
-    ensures { λ r. ⌜ (r ≡ cond (leb m (score (ops q) (tripled (now (points .entry)) (now (word .entry)) (now (times .entry))) (now (message .entry)))) (kept + 1) kept) × (now (output .exit) ≡ cond (leb m (score (ops q) (tripled (now (points .entry)) (now (word .entry)) (now (times .entry))) (now (message .entry)))) (putMid (kept * length (now (message .entry))) (length (now (message .entry))) (now (output .entry)) (now (message .entry))) (now (output .entry))) ⌝ }
+    ensures { λ r. ⌜ Kept q m (now (points .entry)) (now (word .entry)) (now (times .entry)) kept (now (message .entry)) (now (output .entry)) (now (output .exit)) r ⌝ }
 {
     if score(q, message, points, word, times) < m {
         return kept;

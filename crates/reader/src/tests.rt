@@ -15,6 +15,16 @@ pub fn both_long(n: usize, these: &[u16], m: usize, those: &[u16]) -> bool
     those.len() == m
 }
 
+// Whether these and those are n, and the numbers of a curve as many as its size.
+pub fn three_long(n: usize, these: &[u16], those: &[u16], size: usize, curve: &[u16]) -> bool
+    ensures { λ r. ⌜ r ≡ long n (now (these .entry)) && long n (now (those .entry)) && long size (now (curve .entry)) ⌝ }
+{
+    if !both_long(n, these, n, those) {
+        return false;
+    }
+    curve.len() == size
+}
+
 // Whether a is less than x or b less than y: of two rooms one is too short.
 pub fn either_short(a: usize, x: usize, b: usize, y: usize) -> bool
     ensures { λ r. ⌜ r ≡ ltb a x || ltb b y ⌝ }
@@ -25,7 +35,7 @@ pub fn either_short(a: usize, x: usize, b: usize, y: usize) -> bool
     b < y
 }
 
-// .. of three.
+// Whether of three rooms one is too short.
 pub fn any_short(a: usize, x: usize, b: usize, y: usize, c: usize, z: usize) -> bool
     ensures { λ r. ⌜ r ≡ ltb a x || ltb b y || ltb c z ⌝ }
 {
@@ -43,6 +53,16 @@ pub fn both_below(p: usize, these: &[u16], those: &[u16]) -> bool
         return false;
     }
     all_below(p, those)
+}
+
+// Whether each of these, of those and of a curve is below p.
+pub fn three_below(p: usize, these: &[u16], those: &[u16], curve: &[u16]) -> bool
+    ensures { λ r. ⌜ r ≡ under p (now (these .entry)) && under p (now (those .entry)) && under p (now (curve .entry)) ⌝ }
+{
+    if !both_below(p, these, those) {
+        return false;
+    }
+    all_below(p, curve)
 }
 
 // Whether each is below p.

@@ -1,4 +1,5 @@
-// A word with its points: every place is a triple with the one multiplicity s.
+// What the engine is asked for a word: each of its places makes a triple of point, symbol and the one multiplicity s.
+// q is the modulus.
 ghost use mathlib.Core.Path.{_≡_};
 ghost use Prim.Native.Nat.{_+_, _*_};
 ghost use lib.Dec.{T};
@@ -53,7 +54,8 @@ pub fn find(
     clear(work);
 }
 
-// Writes the roots of the curve that agree with enough of the word, in order, and clears the room that they were searched in. The roots wait in an array: behind the list nothing is written.
+// Writes the roots of the curve that agree with enough of the word, in order, and clears the room that they were searched in.
+// The roots wait in an array, since behind the list nothing may be written.
 pub fn list(
     q: u16,
     k: usize,

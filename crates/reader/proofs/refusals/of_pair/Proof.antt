@@ -18,27 +18,30 @@ both-below-requires c κs = search needs
 
 returns-2 : tie.Need-returns-2
 unfolding pair-causes lowest
-returns-2 c = simp (holds (c .before .before .before .both-long .ensures) (c .before .before .if1 .left), fails (c .before .both-below .ensures) (c .if2 .taken))
+returns-2 c =
+    let a = c .before .before in
+    simp (holds (a .before .both-long .ensures) (a .if1 .left), fails (c .before .both-below .ensures) (c .if2 .taken))
 
 all-distinct-requires : tie.Need-all-distinct-requires
 all-distinct-requires c κs = search needs
 
 returns-3 : tie.Need-returns-3
 unfolding pair-causes lowest
-returns-3 c = simp (holds (c .before .before .before .before .before .both-long .ensures) (c .before .before .before .before .if1 .left), holds (c .before .before .before .both-below .ensures) (c .before .before .if2 .left), fails (c .before .all-distinct .ensures) (c .if3 .taken))
+returns-3 c =
+    let b = c .before .before in
+    let a = b .before .before in
+    let long = holds (a .before .both-long .ensures) (a .if1 .left) in
+    let below = holds (b .before .both-below .ensures) (b .if2 .left) in
+    simp (long, below, fails (c .before .all-distinct .ensures) (c .if3 .taken))
 
 returns-4 : tie.Need-returns-4
 unfolding pair-causes lowest
-returns-4 c = simp (holds (c .before .before .before .before .before .both-long .ensures) (c .before .before .before .before .if1 .left), holds (c .before .before .before .both-below .ensures) (c .before .before .if2 .left), holds (c .before .all-distinct .ensures) (c .if3 .left))
+returns-4 c =
+    let b = c .before .before in
+    let a = b .before .before in
+    let long = holds (a .before .both-long .ensures) (a .if1 .left) in
+    let below = holds (b .before .both-below .ensures) (b .if2 .left) in
+    simp (long, below, holds (c .before .all-distinct .ensures) (c .if3 .left))
 
 pub of-pair-spec : {M : Type 1} → statement M
-of-pair-spec =
-    tie.close
-    (tie.spec
-    both-long-requires
-    returns
-    both-below-requires
-    returns-2
-    all-distinct-requires
-    returns-3
-    returns-4)
+of-pair-spec = tie.close (tie.spec both-long-requires returns both-below-requires returns-2 all-distinct-requires returns-3 returns-4)

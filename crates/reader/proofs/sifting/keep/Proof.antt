@@ -17,7 +17,7 @@ returns : tie.Need-returns
 returns c =
     let x = c .before .before .before .before .before .before .before .args in
     let no-more = ap (leb (x .m)) (sym (c .before .score .ensures)) ∙ lt-leb (x .m) _ (c .if1 .taken) in
-    (simp no-more, simp no-more)
+    record { number = simp no-more; written = simp no-more }
 
 mul-a : tie.Need-mul-a
 mul-a c = search needs
@@ -48,9 +48,13 @@ same-length c = search needs
 
 returns-2 : tie.Need-returns-2
 returns-2 c =
-    let x = c .before .before .before .before .before .before .before .before .before .before .before .args in
-    let enough = ap (leb (x .m)) (sym (c .before .before .before .before .before .score .ensures)) ∙ le-leb (x .m) _ (c .before .before .before .before .if1 .left) in
-    (simp enough, simp enough (ap (λ ys. putMid (x .kept * length (x .message .now)) (x .kept * length (x .message .now) + length (x .message .now) - x .kept * length (x .message .now)) (x .output .now) ys) (c .before .before .copy .ensures) ∙ put-is (x .kept * length (x .message .now)) (length (x .message .now)) (x .output .now) (x .message .now)))
+    let b = c .before .before .before .before in
+    let x = b .before .before .before .before .before .before .before .args in
+    let n = length (x .message .now) in
+    let a = x .kept * n in
+    let enough = ap (leb (x .m)) (sym (b .before .score .ensures)) ∙ le-leb (x .m) _ (b .if1 .left) in
+    let put = ap (putMid a (a + n - a) (x .output .now)) (c .before .before .copy .ensures) in
+    record { number = simp enough; written = simp enough (put ∙ put-is a n (x .output .now) (x .message .now)) }
 
 pub keep-spec : {M : Type 1} → statement M
 keep-spec =

@@ -1,7 +1,7 @@
 -- score: what is added up, and the score from place j on, are the whole score.
 use mathlib.Core.Path.{_≡_}
 use Prim.Native.Nat.{_+_, _-_, _*_, _≤_}
-use lib.ListN.{length}
+use lib.ListN.{length, getD}
 use Rattle.rules.specs.Field.{ops}
 use Rattle.rules.specs.Code.{score}
 use Rattle.curve.specs.Triples.{tripled}
@@ -17,6 +17,13 @@ Inv-loop q message points word times sum₀ j₀ sum j =
 
 abbrev μ-loop : tie.MeasureT-loop
 μ-loop q message points word times sum₀ j₀ sum j = length points - j
+
+abbrev entry : tie.In-loop Inv-loop μ-loop → tie.Start Inv-loop μ-loop
+entry c = c .before .before .before .before .before .before
+
+-- the multiplicity in hand
+few : (c : tie.In-loop Inv-loop μ-loop) → getD (entry c .args .times .now) (c .before .loop .j) 0 ≤ 4
+few c = entry c .pre .few (c .before .loop .j) (omega (arith, entry c .pre .multiplicities))
 
 loop-holds : tie.Need-loop-holds Inv-loop μ-loop
 loop-holds c = (search needs, search needs, omega arith)
@@ -41,11 +48,14 @@ shared-slice-read-share-3 c = search needs
 
 share-requires : tie.Need-share-requires Inv-loop μ-loop
 share-requires c κs =
-    let x = c .before .before .before .before .before .before .before .before .before .args in
-    (c .before .before .before .before .before .before .before .before .before .pre .field, under-at (x .q) (x .word .now) (c .before .before .before .before .before .before .before .before .before .pre .small) (c .before .before .before .before .loop .j) (omega (arith, c .before .before .before .before .before .before .before .before .before .pre .symbols)))
+    let b = c .before .before .before in
+    let h = entry b .pre in
+    (h .field, under-at _ (entry b .args .word .now) (h .small) (b .before .loop .j) (omega (arith, h .symbols)))
 
 add-sum : tie.Need-add-sum Inv-loop μ-loop
-add-sum c = omega (arith, c .share .ensures .1, c .before .before .before .before .before .before .before .before .before .before .pre .few (c .before .before .before .before .before .loop .j) (omega (arith, c .before .before .before .before .before .before .before .before .before .before .pre .multiplicities)), c .before .before .before .before .before .loop .inv .1, c .before .before .before .before .before .before .before .before .before .before .pre .places)
+add-sum c =
+    let b = c .before .before .before .before in
+    omega (arith, c .share .ensures .1, few b, b .before .loop .inv .1, entry b .pre .places)
 
 add-j : tie.Need-add-j Inv-loop μ-loop
 add-j c = search needs
@@ -55,12 +65,16 @@ loop-less c = search needs
 
 loop-again : tie.Need-loop-again Inv-loop μ-loop
 loop-again c =
-    let x = c .before .before .before .before .before .before .before .before .before .before .args in
-    let l = c .before .before .before .before .before .loop in
-    let h = c .before .before .before .before .before .before .before .before .before .before .pre in (
+    let b = c .before .before .before .before in
+    let x = entry b .args in
+    let h = entry b .pre in
+    let l = b .before .loop in
+    let more =
+    behind-more (x .q) (x .points .now) (x .word .now) (x .times .now) (x .message .now) (l .j) (h .symbols) (h .multiplicities)
+    (omega arith) in (
       search needs,
-      omega (arith, c .share .ensures .1, h .few (l .j) (omega (arith, h .multiplicities)), l .inv .1),
-      omega (arith, l .inv .2, c .share .ensures .0, behind-more (x .q) (x .points .now) (x .word .now) (x .times .now) (x .message .now) (l .j) (h .symbols) (h .multiplicities) (omega arith)),
+      omega (arith, c .share .ensures .1, few b, l .inv .1),
+      omega (arith, l .inv .2, c .share .ensures .0, more),
     )
 
 returns : tie.Need-returns Inv-loop μ-loop

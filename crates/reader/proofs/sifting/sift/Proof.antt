@@ -1,14 +1,11 @@
 -- sift: what is kept of the first i messages stands at the front of the output, and in the end of all.
 use mathlib.Core.Path.{_≡_, refl, _∙_}
-use Prim.Native.Nat.{_+_, _-_, _*_, _≤_}
+use mathlib.Core.List.{List}
+use Prim.Native.Nat.{ℕ, _+_, _-_, _*_, _≤_}
 use native.Mathlib.Nat.{mul-le-mul-right}
-use lib.Dec.{leb}
 use lib.ListN.{length, take, drop}
-use Rattle.rules.specs.Field.{ops}
-use Rattle.rules.specs.Code.{score}
-use Rattle.curve.specs.Triples.{tripled}
 use Rattle.buffers.proofs.Rows.{row-fits}
-use Rattle.reader.specs.Sift.{Sifted}
+use Rattle.reader.specs.Sift.{scores, Sifted}
 use Rattle.reader.proofs.Kept.{at-most, run-is, run-long, sift-none, sift-more}
 use native.Mathlib.Omega.{arith}
 use borrow.Author.Needs.{needs}
@@ -22,17 +19,35 @@ Inv-loop q k m count found points word times output₀ kept₀ i₀ output kept 
 abbrev μ-loop : tie.MeasureT-loop
 μ-loop q k m count found points word times output₀ kept₀ i₀ output kept i = count - i
 
+abbrev entry : tie.In-loop Inv-loop μ-loop → tie.Start Inv-loop μ-loop
+entry c = c .before .before .before .before .before .before .before
+
+-- the message in hand, as the code cuts it, lies within those found
+abbrev message : tie.In-loop Inv-loop μ-loop → List ℕ
+message c =
+    let a = c .before .loop .i * entry c .args .k in
+    take (a + entry c .args .k - a) (drop a (entry c .args .found .now))
+
+row : (c : tie.In-loop Inv-loop μ-loop) → let x = entry c .args in c .before .loop .i * x .k + x .k ≤ x .count * x .k
+row c = row-fits (entry c .args .k) (omega arith)
+
+within : (c : tie.In-loop Inv-loop μ-loop) → let x = entry c .args in c .before .loop .i * x .k + x .k ≤ length (x .found .now)
+within c = omega (arith, row c, entry c .pre .2)
+
+long : (c : tie.In-loop Inv-loop μ-loop) → length (message c) ≡ entry c .args .k
+long c = run-long _ (entry c .args .k) (entry c .args .found .now) (within c)
+
 loop-holds : tie.Need-loop-holds Inv-loop μ-loop
 loop-holds c = (search needs, search needs, refl, sift-none _ _ _ _ _ _ _ _)
 
 mul-a : tie.Need-mul-a Inv-loop μ-loop
-mul-a c = omega (arith, row-fits {t = c .before .loop .i} {n = c .before .before .before .before .before .before .before .args .count} (c .before .before .before .before .before .before .before .args .k) (omega arith), c .before .before .before .before .before .before .before .pre .2)
+mul-a c = omega (arith, within c)
 
 add-e : tie.Need-add-e Inv-loop μ-loop
-add-e c = omega (arith, row-fits {t = c .before .loop .i} {n = c .before .before .before .before .before .before .before .args .count} (c .before .before .before .before .before .before .before .args .k) (omega arith), c .before .before .before .before .before .before .before .pre .2)
+add-e c = omega (arith, within c)
 
 mul-keep : tie.Need-mul-keep Inv-loop μ-loop
-mul-keep c = omega (arith, row-fits {t = c .before .loop .i} {n = c .before .before .before .before .before .before .before .args .count} (c .before .before .before .before .before .before .before .args .k) (omega arith), c .before .before .before .before .before .before .before .pre .2)
+mul-keep c = omega (arith, within c)
 
 sub-keep : tie.Need-sub-keep Inv-loop μ-loop
 sub-keep c = search needs
@@ -41,15 +56,18 @@ part-keep-start : tie.Need-part-keep-start Inv-loop μ-loop
 part-keep-start c = search needs
 
 part-keep-end : tie.Need-part-keep-end Inv-loop μ-loop
-part-keep-end c = omega (arith, row-fits {t = c .before .loop .i} {n = c .before .before .before .before .before .before .before .args .count} (c .before .before .before .before .before .before .before .args .k) (omega arith), c .before .before .before .before .before .before .before .pre .2)
+part-keep-end c = omega (arith, within c)
 
 keep-requires : tie.Need-keep-requires Inv-loop μ-loop
 keep-requires c κs =
-    let x = c .before .before .before .before .before .before .before .before .before .args in
-    let l = c .before .before .before .loop in
-    let fits = row-fits {t = l .i} {n = x .count} (x .k) (omega arith) in
-    let long : length (take (l .i * x .k + x .k - l .i * x .k) (drop (l .i * x .k) (x .found .now))) ≡ x .k = run-long (l .i * x .k) (x .k) (x .found .now) (omega (arith, fits, c .before .before .before .before .before .before .before .before .before .pre .2)) in
-    (c .before .before .before .before .before .before .before .before .before .pre .0, omega (arith, l .inv .1, c .before .before .before .before .before .before .before .before .before .pre .1), rw long (omega (arith, fits, mul-le-mul-right {m = l .kept} {n = l .i} (x .k) (l .inv .1), l .inv .2, c .before .before .before .before .before .before .before .before .before .pre .3)))
+    let b = c .before .before in
+    let x = entry b .args in
+    let l = b .before .loop in
+    let behind = mul-le-mul-right {m = l .kept} {n = l .i} (x .k) (l .inv .1) in (
+      entry b .pre .0,
+      omega (arith, l .inv .1, entry b .pre .1),
+      rw (long b) (omega (arith, row b, behind, l .inv .2, entry b .pre .3)),
+    )
 
 add-i : tie.Need-add-i Inv-loop μ-loop
 add-i c = search needs
@@ -59,14 +77,15 @@ loop-less c = search needs
 
 loop-again : tie.Need-loop-again Inv-loop μ-loop
 loop-again c =
-    let x = c .before .before .before .before .before .before .before .before .before .before .before .before .args in
-    let l = c .before .before .before .before .before .before .loop in
-    let fits = row-fits {t = l .i} {n = x .count} (x .k) (omega arith) in
-    let r = c .before .before .keep .ensures in (
+    let b = c .before .before .before .before .before in
+    let x = entry b .args in
+    let l = b .before .loop in
+    let r = c .before .before .keep .ensures in
+    let enough = scores (x .q) (x .m) (x .points .now) (x .word .now) (x .times .now) (message b) in (
       search needs,
-      omega (arith, l .inv .1, r .0, at-most (leb (x .m) (score (ops (x .q)) (tripled (x .points .now) (x .word .now) (x .times .now)) (take (l .i * x .k + x .k - l .i * x .k) (drop (l .i * x .k) (x .found .now))))) (l .kept)),
+      omega (arith, l .inv .1, r .number, at-most enough (l .kept)),
       c .before .before .keep .kept .1 .1 .1 .1 .1 .1 .1 .0 ∙ l .inv .2,
-      sift-more _ _ _ _ _ _ _ _ (l .i) (l .kept) _ (l .inv .3) (run-is (l .i * x .k) (x .k) (x .found .now)) (run-long (l .i * x .k) (x .k) (x .found .now) (omega (arith, fits, c .before .before .before .before .before .before .before .before .before .before .before .before .pre .2))) (omega (arith, fits, c .before .before .before .before .before .before .before .before .before .before .before .before .pre .2)) (r .0) (r .1),
+      sift-more _ _ _ _ _ _ _ _ (l .i) (l .kept) _ (l .inv .3) (run-is _ (x .k) (x .found .now)) (long b) (omega (arith, within b)) r,
     )
 
 same-length : tie.Need-same-length Inv-loop μ-loop

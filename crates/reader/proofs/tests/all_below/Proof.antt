@@ -33,7 +33,8 @@ returns : tie.Need-returns Inv-loop μ-loop
 unfolding under
 returns c = let l = c .before .before .before .before .loop in
     let a = c .before .before .before .before .before .before .args in
-    scan-fails (all-scan (λ x. ltb x (a .p))) _ (l .i) (l .inv) (omega arith) (le-ltb (getD (a .symbols .now) (l .i) 0) (a .p) (omega arith))
+    scan-fails (all-scan (λ x. ltb x (a .p))) _ (l .i) (l .inv) (omega arith)
+    (le-ltb (getD (a .symbols .now) (l .i) 0) (a .p) (omega arith))
 
 add-i : tie.Need-add-i Inv-loop μ-loop
 add-i c = search needs
@@ -45,7 +46,8 @@ loop-again : tie.Need-loop-again Inv-loop μ-loop
 unfolding under
 loop-again c = let l = c .before .before .before .before .loop in
     let a = c .before .before .before .before .before .before .args in
-    scan-more (all-scan (λ x. ltb x (a .p))) _ (l .i) (l .inv) (omega arith) (lt-ltb (getD (a .symbols .now) (l .i) 0) (a .p) (omega arith))
+    scan-more (all-scan (λ x. ltb x (a .p))) _ (l .i) (l .inv) (omega arith)
+    (lt-ltb (getD (a .symbols .now) (l .i) 0) (a .p) (omega arith))
 
 returns-2 : tie.Need-returns-2 Inv-loop μ-loop
 unfolding under

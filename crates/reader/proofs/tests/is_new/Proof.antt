@@ -30,7 +30,8 @@ shared-slice-read-if1 c = search needs
 returns : tie.Need-returns Inv-loop μ-loop
 returns c = let l = c .before .before .before .loop in
     let a = c .before .before .before .before .args in
-    scan-fails (all-scan (λ y. not (eqb (a .x) y))) _ (l .i) (l .inv) (omega arith) (ap not (eq-eqb (a .x) (getD (a .others .now) (l .i) 0) (omega arith)))
+    scan-fails (all-scan (λ y. not (eqb (a .x) y))) _ (l .i) (l .inv) (omega arith)
+    (ap not (eq-eqb (a .x) (getD (a .others .now) (l .i) 0) (omega arith)))
 
 add-i : tie.Need-add-i Inv-loop μ-loop
 add-i c = search needs
@@ -41,7 +42,8 @@ loop-less c = search needs
 loop-again : tie.Need-loop-again Inv-loop μ-loop
 loop-again c = let l = c .before .before .before .loop in
     let a = c .before .before .before .before .args in
-    scan-more (all-scan (λ y. not (eqb (a .x) y))) _ (l .i) (l .inv) (omega arith) (ap not (ne-eqb (a .x) (getD (a .others .now) (l .i) 0) (λ e. c .if1 .left (sym e))))
+    scan-more (all-scan (λ y. not (eqb (a .x) y))) _ (l .i) (l .inv) (omega arith)
+    (ap not (ne-eqb (a .x) (getD (a .others .now) (l .i) 0) (λ e. c .if1 .left (sym e))))
 
 returns-2 : tie.Need-returns-2 Inv-loop μ-loop
 returns-2 c = scan-ends (all-scan _) _ (c .before .loop .i) (c .before .loop .inv) (omega arith)

@@ -1,5 +1,6 @@
 -- find: the array of multiplicities makes the word's triples, the finder's curve passes for them, and the room is cleared behind it.
 use mathlib.Core.Path.{ap, subst, _∙_}
+use mathlib.Core.List.{List}
 use lib.Dec.{T}
 use Prim.Native.Nat.{ℕ}
 use lib.ListN.{replicate}
@@ -10,6 +11,13 @@ use Rattle.reader.proofs.Front.{all-clear}
 use borrow.Author.Needs.{needs}
 use Rattle.reader.proofs.word.find.Statement.{statement}
 use Rattle.reader.proofs.word.find.Tie as tie
+
+abbrev entry : tie.After-find → tie.Start
+entry c = c .before .before .before .before .before .before .before .before .before
+
+-- the curve and the room as the finder leaves them
+abbrev curve : tie.After-find → List ℕ
+curve c = c .find .last .1 .1 .1 .1 .1 .1 .1 .0
 
 sub-find : tie.Need-sub-find
 sub-find c = search needs
@@ -36,14 +44,16 @@ same-length-2 c = search needs
 
 returns : tie.Need-returns
 returns c =
-    let x = c .before .before .before .before .before .before .before .before .before .before .before .before .before .before .before .before .before .args in
-    let h = c .before .before .before .before .before .before .before .before .before .before .before .before .before .before .before .before .before .pre in
-    let f = c .before .before .before .before .before .before .before .before .find .ensures in
+    let b = c .before .before .before .before .before .before .before .before in
+    let x = entry b .args in
+    let h = entry b .pre in
+    let f = b .find .ensures in
+    let kept = b .find .kept .1 .1 .1 .1 .1 .1 .1 in
     record {
-      whole = c .before .before .before .before .before .before .before .before .find .kept .1 .1 .1 .1 .1 .1 .1 .0 ∙ h .whole;
+      whole = kept .0 ∙ h .whole;
       small = f .small;
-      passing = subst (λ zs. T (passes (ops (x .q)) (x .k) (x .w) (x .l) zs (c .before .before .before .before .before .before .before .before .find .last .1 .1 .1 .1 .1 .1 .1 .0))) (times-triples (h .worded)) (f .passing);
-      cleared = all-clear (c .before .before .clear .ensures) ∙ ap (λ (n : ℕ). replicate n 0) (c .before .before .before .before .before .before .before .before .find .kept .1 .1 .1 .1 .1 .1 .1 .1 .0);
+      passing = subst (λ zs. T (passes (ops (x .q)) (x .k) (x .w) (x .l) zs (curve b))) (times-triples (h .worded)) (f .passing);
+      cleared = all-clear (c .before .before .clear .ensures) ∙ ap (λ (n : ℕ). replicate n 0) (kept .1 .0);
     }
 
 pub find-spec : {M : Type 1} → statement M

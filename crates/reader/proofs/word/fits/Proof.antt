@@ -23,9 +23,9 @@ passes-requires c κs =
 
 returns : tie.Need-returns
 returns c =
-    let x = c .before .before .before .before .before .before .args in
-    c .passes .ensures
-    ∙ ap (λ zs. passes (ops (x .q)) (x .k) (x .w) (x .l) zs (x .curve .now)) (times-triples (c .before .before .before .before .before .before .pre .0))
+    let start = c .before .before .before .before .before .before in
+    let x = start .args in
+    c .passes .ensures ∙ ap (λ zs. passes (ops (x .q)) (x .k) (x .w) (x .l) zs (x .curve .now)) (times-triples (start .pre .0))
 
 pub fits-spec : {M : Type 1} → statement M
 fits-spec =

@@ -1,15 +1,22 @@
 -- list: the roots of the curve come one after the other, those that score enough are kept, and the room is cleared behind them.
 use mathlib.Core.Path.{_≡_, refl, ap, _∙_}
 use mathlib.Core.List.{flatten}
-use Prim.Native.Nat.{ℕ}
+use Prim.Native.Nat.{ℕ, _*_, _≤_}
 use lib.ListN.{length, replicate}
 use Rattle.rules.specs.Outcome.{over}
 use Rattle.reader.proofs.Front.{all-clear}
-use Rattle.reader.proofs.Listing.{searchable, scorable, few-found, enough-is}
+use Rattle.reader.proofs.Searching.{searchable, scorable, few-found, enough-is}
 use native.Mathlib.Omega.{arith}
 use borrow.Author.Needs.{needs}
 use Rattle.reader.proofs.word.list.Statement.{statement}
 use Rattle.reader.proofs.word.list.Tie as tie
+
+abbrev entry : tie.After-search → tie.Start
+entry c = c .before .before .before .before .before .before .before .before
+
+-- the roots found fit in both buffers
+few : (c : tie.After-search) → c .search .result .found * entry c .args .k ≤ entry c .args .l * entry c .args .k
+few c = few-found (entry c .pre) (c .search .ensures)
 
 slice-aggregate-search : tie.Need-slice-aggregate-search
 slice-aggregate-search c = search needs
@@ -31,8 +38,15 @@ part-sift-end c = search needs
 
 sift-requires : tie.Need-sift-requires
 sift-requires c κs =
-    let long : length (c .before .before .before .before .before .before .before .search .last .1 .1 .1 .1 .1 .1 .0) ≡ 1536 = c .before .before .before .before .before .before .before .search .kept .1 .1 .1 .1 .1 .1 .0 in
-    (scorable (c .before .before .before .before .before .before .before .before .before .before .before .before .before .before .before .pre), omega (arith, c .before .before .before .before .before .before .before .search .ensures .found, c .before .before .before .before .before .before .before .search .ensures .few, c .before .before .before .before .before .before .before .before .before .before .before .before .before .before .before .pre .worded .shape .few), omega (arith, few-found (c .before .before .before .before .before .before .before .before .before .before .before .before .before .before .before .pre) (c .before .before .before .before .before .before .before .search .ensures), c .before .before .before .before .before .before .before .before .before .before .before .before .before .before .before .pre .list, long), omega (arith, few-found (c .before .before .before .before .before .before .before .before .before .before .before .before .before .before .before .pre) (c .before .before .before .before .before .before .before .search .ensures), c .before .before .before .before .before .before .before .before .before .before .before .before .before .before .before .pre .room))
+    let b = c .before .before .before .before .before .before .before in
+    let h = entry b .pre in
+    let r = b .search .ensures in
+    let long : length (b .search .last .1 .1 .1 .1 .1 .1 .0) ≡ 1536 = b .search .kept .1 .1 .1 .1 .1 .1 .0 in (
+      scorable h,
+      omega (arith, r .found, r .few, h .worded .shape .few),
+      omega (arith, few b, h .list, long),
+      omega (arith, few b, h .room),
+    )
 
 clear-requires : tie.Need-clear-requires
 clear-requires c κs = search needs
@@ -45,14 +59,15 @@ same-length-2 c = search needs
 
 returns : tie.Need-returns
 returns c =
-    let h = c .before .before .before .before .before .before .before .before .before .before .before .before .before .before .before .before .before .before .before .before .before .before .pre in
-    let r = c .before .before .before .before .before .before .before .before .before .before .before .before .before .before .search .ensures in
+    let b = c .before .before .before .before .before .before .before .before .before .before .before .before .before .before in
+    let r = b .search .ensures in
     let e = c .before .before .before .before .before .before .sift .ensures in
+    let same = enough-is (entry b .pre) r in
     record {
       refusal = refl;
-      found = e .number ∙ ap length (enough-is h r);
+      found = e .number ∙ ap length same;
       tried = r .tried;
-      written = e .written ∙ ap (λ fs. over (flatten fs) (c .before .before .before .before .before .before .before .before .before .before .before .before .before .before .before .before .before .before .before .before .before .before .args .output .now)) (enough-is h r);
+      written = e .written ∙ ap (λ fs. over (flatten fs) (entry b .args .output .now)) same;
       cleared = all-clear (c .before .before .clear .ensures) ∙ ap (λ (n : ℕ). replicate n 0) (r .slots);
     }
 

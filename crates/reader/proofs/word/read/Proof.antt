@@ -1,26 +1,34 @@
 -- read: the curve found passes, so that it can be listed from.
-use mathlib.Core.Path.{ap, _∙_}
+use mathlib.Core.Path.{_≡_, ap, _∙_}
 use Prim.Native.Nat.{ℕ}
-use lib.ListN.{replicate}
+use lib.ListN.{length, replicate}
 use native.Mathlib.Omega.{arith}
 use borrow.Author.Needs.{needs}
 use Rattle.reader.proofs.word.read.Statement.{statement}
 use Rattle.reader.proofs.word.read.Tie as tie
+
+abbrev entry : tie.After-find → tie.Start
+entry c = c .before .before .before .before .before .before .before .before
+
+-- work is as long as it was
+same-room : (c : tie.After-find) → length (c .find .last .1 .1 .1 .1 .1 .1 .1 .1 .0) ≡ length (entry c .args .work .now)
+same-room c = c .find .kept .1 .1 .1 .1 .1 .1 .1 .1 .0
 
 find-requires : tie.Need-find-requires
 find-requires c κs = search needs
 
 list-requires : tie.Need-list-requires
 list-requires c κs =
-    let h = c .before .before .before .before .before .before .before .before .before .before .before .before .before .before .before .pre in
-    let f = c .before .before .before .before .before .before .before .find .ensures in
+    let b = c .before .before .before .before .before .before .before in
+    let h = entry b .pre in
+    let f = b .find .ensures in
     record {
       worded = h .findable .worded;
       symbols = h .symbols;
       whole = f .whole;
       small = f .small;
       passing = f .passing;
-      slots = omega (arith, h .slots, c .before .before .before .before .before .before .before .find .kept .1 .1 .1 .1 .1 .1 .1 .1 .0);
+      slots = omega (arith, h .slots, same-room b);
       list = h .list;
       room = h .room;
     }
@@ -36,9 +44,10 @@ same-length-3 c = search needs
 
 returns : tie.Need-returns
 returns c =
-    let f = c .before .before .before .before .before .before .before .before .before .before .before .before .find .ensures in
+    let b = c .before .before .before .before .before .before .before .before .before .before .before .before in
+    let f = b .find .ensures in
     let e = c .before .before .before .before .list .ensures in
-    let clear = e .cleared ∙ ap (λ (n : ℕ). replicate n 0) (c .before .before .before .before .before .before .before .before .before .before .before .before .find .kept .1 .1 .1 .1 .1 .1 .1 .1 .0) in (
+    let clear = e .cleared ∙ ap (λ (n : ℕ). replicate n 0) (same-room b) in (
       record { whole = f .whole; small = f .small; passing = f .passing; cleared = clear },
       record { refusal = e .refusal; found = e .found; tried = e .tried; written = e .written; cleared = clear },
     )
