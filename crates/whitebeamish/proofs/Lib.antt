@@ -1,0 +1,3 @@
+mod Told
+mod Carried
+pub mod Unique

@@ -1,0 +1,21 @@
+-- tell_two: the stores are the results told.
+use Rattle.whitebeamish.proofs.Told.{told-two}
+use borrow.Author.Needs.{needs}
+use Rattle.whitebeamish.proofs.answer.tell_two.Statement.{statement}
+use Rattle.whitebeamish.proofs.answer.tell_two.Tie as tie
+
+put-requires : tie.Need-put-requires
+put-requires c κs = search needs
+
+put-requires-2 : tie.Need-put-requires-2
+put-requires-2 c κs = search needs
+
+same-length : tie.Need-same-length
+same-length c = search needs
+
+returns : tie.Need-returns
+returns c =
+    rw (c .before .before .put2 .ensures, c .before .before .before .before .before .before .put .ensures) (told-two _ _ _)
+
+pub tell-two-spec : {M : Type 1} → statement M
+tell-two-spec = tie.close (tie.spec put-requires put-requires-2 same-length returns)
