@@ -94,13 +94,13 @@ impl Maker {
             runs.push(narrow(&self.passing(&setting, &points, &word)));
         }
         let (output, curve, work) = (setting.l * setting.k, setting.curve_length(), setting.r);
-        let rooms: &[usize] = match form.name {
-            "find" => &[curve, work],
-            "list" => &[output, work],
-            "read" => &[output, curve, work],
-            _ => &[],
+        let rooms = match form.name {
+            "find" => vec![curve, work],
+            "list" => vec![output, work],
+            "read" => vec![output, curve, work],
+            _ => vec![],
         };
-        runs.extend(rooms.iter().map(|&room| self.lent(room)));
+        runs.extend(rooms.into_iter().map(|room| self.lent(room)));
         (parameters(&setting), runs)
     }
 
@@ -209,13 +209,13 @@ impl Maker {
     fn out_of_range(&mut self, numbers: &mut [u64]) {
         let place = self.random.between(1, numbers.len() as u64 - 1) as usize;
         let wide = numbers[place] + (1 << self.random.pick(&[8, 16, 32, 63]));
-        let near: &[u64] = match place {
-            1 => &[0, 1, 65, 66],
-            2 => &[0, 1, numbers[1] + 1],
-            3 => &[0, 5, 6],
-            _ => &[numbers[1], numbers[1] + 1],
+        let near = match place {
+            1 => vec![0, 1, 65, 66],
+            2 => vec![0, 1, numbers[1] + 1],
+            3 => vec![0, 5, 6],
+            _ => vec![numbers[1], numbers[1] + 1],
         };
-        let near = self.random.pick(near);
+        let near = self.random.pick(&near);
         numbers[place] = self.random.pick(&[near, near, wide, u64::MAX]);
     }
 
