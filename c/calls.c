@@ -178,12 +178,28 @@ static void print_reply(const struct request *q, unsigned returned) {
 }
 
 /* The guards of a lent buffer are as they were, and all of one that is not lent. */
-static void finish(struct buffer *b, bool lent, const char *call) {
+static void expect_kept(const struct buffer *b, bool lent, const char *call) {
     const size_t kept = lent ? GUARD : whole(b), end = whole(b) - GUARD;
     if (memcmp(b->memory, b->before, kept) != 0 || memcmp(b->memory + end, b->before + end, GUARD) != 0)
         fail(1, "wrote where it may not", call);
+}
+
+static void release(struct buffer *b) {
     free(b->memory);
     free(b->before);
+}
+
+static void answer_request(struct request *q) {
+    const struct form *form = q->form;
+    const unsigned returned = form->runs > 0 ? call_with_runs(q) : call_without_runs(q);
+    for (size_t i = 0; i < form->runs; i++)
+        expect_kept(&q->runs[i], i >= form->runs - form->lent, form->name);
+    if (form->answer)
+        expect_kept(&q->answer, true, form->name);
+    print_reply(q, returned);
+    for (size_t i = 0; i < form->runs; i++)
+        release(&q->runs[i]);
+    release(&q->answer);
 }
 
 static const struct form *form_of(const char *name) {
@@ -197,13 +213,8 @@ static const struct form *form_of(const char *name) {
 int main(void) {
     char name[FIELD];
     while (read_field(name)) {
-        const struct form *form = form_of(name);
-        struct request q = read_request(form);
-        print_reply(&q, form->runs > 0 ? call_with_runs(&q) : call_without_runs(&q));
-        for (size_t i = 0; i < form->runs; i++)
-            finish(&q.runs[i], i >= form->runs - form->lent, form->name);
-        if (form->answer)
-            finish(&q.answer, true, form->name);
+        struct request q = read_request(form_of(name));
+        answer_request(&q);
     }
     return 0;
 }

@@ -12,7 +12,7 @@
  *   for (size_t j = 0; j < found[0]; j++)                       every message that fits, none left out
  *     take(output + j * k);                                     message number j: k symbols, constant term first
  *
- * Link with libwhitebeamish.a: x86-64 Linux only. It needs nothing but memcpy and memset. */
+ * Link with libwhitebeamish.a, which is x86-64 Linux code and needs nothing but the C library. */
 #ifndef WHITEBEAMISH_H
 #define WHITEBEAMISH_H
 
