@@ -2,3 +2,4 @@ pub mod Link
 pub mod Listing
 pub mod Exists
 pub mod Beginnings
+pub mod Readings

@@ -1,0 +1,91 @@
+"""Document 01's setting rule once more, for choosing τ, and how many operations a word is expected to cost."""
+
+from dataclasses import dataclass
+from math import comb
+
+# "The program has 24,000 numbers of work."
+WORK = 24000
+
+# The second program takes the curve when more messages or choices of places than this would be tried.
+AFFORDABLE = 200_000
+
+
+@dataclass(frozen=True)
+class Setting:
+    p: int
+    n: int
+    k: int
+    s: int
+    tau: int
+
+    @property
+    def w(self):
+        return self.s * (self.n - self.tau)
+
+    @property
+    def l(self):
+        return (self.w - 1) // (self.k - 1)
+
+    @property
+    def c(self):
+        return self.n * self.s * (self.s + 1) // 2
+
+    @property
+    def u(self):
+        return sum(self.w - t * (self.k - 1) for t in range(self.l + 1))
+
+    @property
+    def r(self):
+        return (self.l + self.k + 4) * (self.l + 1) * self.w
+
+    @property
+    def numbers(self):
+        return (self.p, self.n, self.k, self.s, self.tau)
+
+    def refusal(self):
+        """3 or 4 of the setting call; p, n, k, s and τ are in their ranges here."""
+        if self.u <= self.c:
+            return 3
+        return 4 if self.l > 24 else 0
+
+    def program_refusal(self):
+        """The same, or 8 where the program's work is too small."""
+        return self.refusal() or (8 if self.r > WORK else 0)
+
+    def finder_count(self):
+        """C conditions, at each of which ℓ+1 curves of U numbers are valued; the sweep and the raise go over as many again."""
+        return 2 * self.c * (self.l + 1) * self.u
+
+    def search_count(self):
+        """For one reading: at each of k lengths every symbol is tried in ℓ+1 rows, and one step over the rows is made."""
+        walk = self.p * (self.l + 1)
+        step = self.w * self.l * (self.l + 1) // 2
+        return self.k * (walk + step)
+
+    def elimination_count(self):
+        """What the second program's elimination takes for the curve."""
+        return self.c**3 // 3
+
+    def own_way(self):
+        """The way that the second program takes when none is named, and how many it tries for a word."""
+        every, choices = self.p**self.k, comb(self.tau + self.k, self.k)
+        if min(every, choices) > AFFORDABLE:
+            return "curve", None
+        return ("all", every) if every <= choices else ("subsets", choices)
+
+
+def half(n, k):
+    """Half the distance."""
+    return (n - k) // 2
+
+
+def largest(p, n, k, s):
+    """The largest τ that the setting rule accepts, or None."""
+    taken = [tau for tau in range(n) if Setting(p, n, k, s, tau).refusal() == 0]
+    return max(taken, default=None)
+
+
+def largest_with_room(p, n, k, s):
+    """The largest τ that the program takes, or None."""
+    taken = [tau for tau in range(n) if Setting(p, n, k, s, tau).program_refusal() == 0]
+    return max(taken, default=None)

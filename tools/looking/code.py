@@ -1,0 +1,26 @@
+# Document 01's code and setting, as far as a reader needs them to follow an answer.
+from collections import namedtuple
+
+Setting = namedtuple("Setting", "p n k s tau")
+Derived = namedtuple("Derived", "W l C U R")
+
+
+def patch_of(p, points, message):
+    """The message polynomial's values at the points, constant term first, modulo p."""
+    values = []
+    for point in points:
+        value = 0
+        for symbol in reversed(message):
+            value = (value * point + symbol) % p
+        values.append(value)
+    return values
+
+
+def derive(setting):
+    """The derived numbers of a setting that is in range."""
+    _, n, k, s, tau = setting
+    W = s * (n - tau)
+    l = (W - 1) // (k - 1)
+    C = n * s * (s + 1) // 2
+    U = sum(W - t * (k - 1) for t in range(l + 1))
+    return Derived(W, l, C, U, (l + k + 4) * (l + 1) * W)
