@@ -10,6 +10,7 @@ pub mod make;
 pub mod patch;
 pub mod random;
 pub mod readings;
+pub mod request;
 pub mod search;
 pub mod setting;
 pub mod text;

@@ -5,11 +5,13 @@ use std::process::ExitCode;
 
 use second::readings::Way;
 use second::text::{self, Fields};
-use second::{make, patch};
+use second::{make, patch, request};
 
 const USAGE: &str = "\
 second patch [--way all|subsets|curve] < FILE
 second make SEED > FILE
+second calls SEED COUNT > CALLS
+second batch [--way all|subsets|curve] < CALLS
 second field sum|difference|product P A B
 second field inverse P A
 second setting P N K S TAU
@@ -37,6 +39,7 @@ fn answer(arguments: &[&str]) -> Result<Vec<u8>, String> {
     match *command {
         "patch" => Ok(patch::run(&input()?, way(rest)?).into_bytes()),
         "make" => Ok(make::file(seed(rest)?)),
+        "calls" => Ok(calls(rest)?.into_bytes()),
         "field" => Ok(text::field(&mut Fields::new(rest.to_vec()))?.into_bytes()),
         "setting" => Ok(text::setting(&mut Fields::new(rest.to_vec()))?.into_bytes()),
         call => on_input(call, rest).map(String::into_bytes),
@@ -45,13 +48,14 @@ fn answer(arguments: &[&str]) -> Result<Vec<u8>, String> {
 
 /// The calls that take their numbers from standard input.
 fn on_input(call: &str, rest: &[&str]) -> Result<String, String> {
-    if !["encode", "find", "check", "list", "read"].contains(&call) {
+    if !["batch", "encode", "find", "check", "list", "read"].contains(&call) {
         return Err(format!("no command {call}"));
     }
     let way = way(rest)?;
     let input = String::from_utf8(input()?).map_err(|_| "the input is not text".to_string())?;
     let mut fields = Fields::of(&input);
     match call {
+        "batch" => request::batch(&input, way),
         "encode" => text::encode(&mut fields),
         "find" => text::find(&mut fields),
         "check" => text::check(&mut fields),
@@ -79,4 +83,11 @@ fn seed(arguments: &[&str]) -> Result<u64, String> {
         [seed] => seed.parse().map_err(|_| "the seed is not a number".to_string()),
         _ => Err("one seed is needed".to_string()),
     }
+}
+
+/// The calls of so many seeds in a row, one to a line.
+fn calls(arguments: &[&str]) -> Result<String, String> {
+    let (count, first) = arguments.split_last().ok_or("a seed and a count are needed")?;
+    let (first, count) = (seed(first)?, seed(&[*count])?);
+    Ok((0..count).map(|i| format!("{}\n", make::requests::request(first.wrapping_add(i)))).collect())
 }

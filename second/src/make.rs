@@ -7,6 +7,7 @@ use crate::setting::Setting;
 use crate::Symbol;
 
 mod endings;
+pub mod requests;
 
 /// What a file is made around. Seeds that follow one another go through all of them.
 #[derive(Clone, Copy, Debug, PartialEq, Eq)]
@@ -232,17 +233,7 @@ impl Maker {
     }
 
     fn many_readings(&mut self) {
-        let (p, n, k, s, tau) = self.random.pick(&[
-            (7, 7, 2, 1, 3),
-            (7, 7, 2, 3, 4),
-            (5, 5, 2, 1, 2),
-            (11, 11, 3, 2, 5),
-            (13, 12, 2, 1, 7),
-            (19, 18, 2, 2, 13),
-            (17, 16, 3, 3, 9),
-            (31, 30, 2, 1, 22),
-        ]);
-        let setting = Setting::accept(p, n, k, s, tau).expect("these are accepted");
+        let setting = self.several();
         self.block_of(&setting, 3);
         let points: Vec<Symbol> = (0..setting.n as Symbol).collect();
         self.symbols_record(2, &points);

@@ -1,5 +1,8 @@
 //! The calls on text: whitespace-separated numbers in, lines of numbers out.
 
+use std::fmt::Display;
+use std::str::FromStr;
+
 use crate::calls::{check_call, encode_call, find_call, list_call, read_call, setting_call};
 use crate::calls::{difference_call, inverse_call, product_call, sum_call};
 use crate::calls::{Lent, Outcome, Parameters};
@@ -19,11 +22,11 @@ impl<'a> Fields<'a> {
         Fields::new(text.split_whitespace().collect())
     }
 
-    fn field(&mut self) -> Result<&'a str, String> {
+    pub fn field(&mut self) -> Result<&'a str, String> {
         self.fields.next().ok_or_else(|| "a number is missing".to_string())
     }
 
-    fn number(&mut self) -> Result<u64, String> {
+    pub fn number<T: FromStr>(&mut self) -> Result<T, String> {
         parsed(self.field()?)
     }
 
@@ -33,7 +36,7 @@ impl<'a> Fields<'a> {
     }
 
     /// A run: its length and then its numbers, or "length=number" for one number repeated.
-    fn run(&mut self) -> Result<Vec<u16>, String> {
+    pub fn run<T: FromStr + Clone>(&mut self) -> Result<Vec<T>, String> {
         let head = self.field()?;
         match head.split_once('=') {
             Some((length, number)) => Ok(vec![parsed(number)?; parsed(length)?]),
@@ -41,7 +44,7 @@ impl<'a> Fields<'a> {
         }
     }
 
-    fn end(&mut self) -> Result<(), String> {
+    pub fn end(&mut self) -> Result<(), String> {
         match self.fields.next() {
             None => Ok(()),
             Some(field) => Err(format!("not expected: {field}")),
@@ -49,7 +52,7 @@ impl<'a> Fields<'a> {
     }
 }
 
-fn parsed<T: std::str::FromStr>(field: &str) -> Result<T, String> {
+fn parsed<T: FromStr>(field: &str) -> Result<T, String> {
     field.parse().map_err(|_| format!("not a number of its size: {field}"))
 }
 
@@ -130,7 +133,7 @@ fn head(outcome: &Outcome) -> String {
 }
 
 /// A run as it is read: its length and then its numbers.
-fn line(numbers: &[u16]) -> String {
+pub fn line<T: Display>(numbers: &[T]) -> String {
     let mut text = numbers.len().to_string();
     for number in numbers {
         text.push(' ');

@@ -50,6 +50,14 @@ fn numbers_from_input() {
 }
 
 #[test]
+fn many_calls() {
+    let calls: String = (5..25).map(|seed| format!("{}\n", second::make::requests::request(seed))).collect();
+    prints(&["calls", "5", "20"], "", &calls);
+    prints(&["batch"], &calls, &second::request::batch(&calls, None).unwrap());
+    prints(&["batch"], "", "");
+}
+
+#[test]
 fn files() {
     let made = second::make::file(3);
     assert_eq!(second(&["patch"], &made), (Some(0), second::patch::run(&made, None)));
@@ -59,9 +67,18 @@ fn files() {
 
 #[test]
 fn not_understood() {
-    for arguments in
-        [&[][..], &["other"], &["make"], &["make", "x"], &["patch", "--way", "no"], &["setting", "7"], &["read"]]
-    {
+    for arguments in [
+        &[][..],
+        &["other"],
+        &["make"],
+        &["make", "x"],
+        &["calls", "1"],
+        &["calls", "1", "x"],
+        &["batch"],
+        &["patch", "--way", "no"],
+        &["setting", "7"],
+        &["read"],
+    ] {
         assert_eq!(second(arguments, b"7 7"), (Some(2), String::new()), "{arguments:?}");
     }
 }

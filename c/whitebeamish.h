@@ -1,0 +1,171 @@
+/* whitebeamish.h: the calls of Whitebeamish, a reader for damaged Reed-Solomon patches. C99 or later, and C++.
+ *
+ * How to read a word under the setting p, n, k, s, tau; points and word have n numbers each:
+ *
+ *   size_t d[5], found[2];
+ *   if (whitebeamish_setting(p, n, k, s, tau, d, 5) != WHITEBEAMISH_OK) give_up();      a refusal number, 1 to 4
+ *   size_t W = d[0], l = d[1], R = d[4];
+ *   uint16_t *output = malloc(l * k * sizeof *output);
+ *   uint16_t *curve = malloc((l + 1) * W * sizeof *curve), *work = malloc(R * sizeof *work);
+ *   if (whitebeamish_read(p, n, k, s, tau, points, n, word, n,
+ *                         output, l * k, curve, (l + 1) * W, work, R, found, 2) != WHITEBEAMISH_OK) give_up();
+ *   for (size_t j = 0; j < found[0]; j++)                       every message that fits, none left out
+ *     take(output + j * k);                                     message number j: k symbols, constant term first
+ *
+ * Link with libwhitebeamish.a, which is x86-64 Linux code and needs nothing but the C library. */
+#ifndef WHITEBEAMISH_H
+#define WHITEBEAMISH_H
+
+#include <stdbool.h>
+#include <stddef.h>
+#include <stdint.h>
+
+#ifdef __cplusplus
+extern "C" {
+#endif
+
+/* ---- Words ----
+ *
+ * p        the modulus, a prime from 2 to 929. A symbol is a number from 0 to p - 1.
+ * n        the places of a patch, 2 to 64.
+ * k        the symbols of a message, 2 to n. A message is a polynomial, constant term first.
+ * s        the multiplicity, 1 to 4. More of it allows more damage and costs more room and time.
+ * tau      the damaged places that are allowed, 0 to n - 1.
+ * points   n different symbols, one to a place. The patch of a message is its polynomial's value at each of them.
+ * word     n symbols: a patch as it was received. A mark that could not be read is given as 0, like any other symbol.
+ * curve    (l + 1) * W symbols, the coefficient of x^i * y^t at place t * W + i. Found by find and read; list and
+ *          check take one that somebody proposes.
+ *
+ * The derived numbers of a setting, which whitebeamish_setting gives:
+ *   W = s * (n - tau)
+ *   l = (W - 1) / (k - 1), rounded down
+ *   C = n * s * (s + 1) / 2
+ *   U = the sum of W - t * (k - 1) for t from 0 to l
+ *   R = (l + k + 4) * (l + 1) * W
+ * A setting is accepted when U > C and l <= 24.
+ *
+ * Room, in numbers of 16 bits: output l * k, curve (l + 1) * W, work R. More is taken as well. */
+
+/* Bounds that hold for every accepted setting; buffers of these lengths fit all of them. */
+#define WHITEBEAMISH_P_MAX 929
+#define WHITEBEAMISH_N_MAX 64
+#define WHITEBEAMISH_S_MAX 4
+#define WHITEBEAMISH_L_MAX 24
+#define WHITEBEAMISH_W_MAX 256
+#define WHITEBEAMISH_OUTPUT_MAX 1536
+#define WHITEBEAMISH_CURVE_MAX 6400
+#define WHITEBEAMISH_WORK_MAX 1048575
+
+/* ---- Refusals ----
+ *
+ * Every call but whitebeamish_is_modulus returns one of these numbers. They are tested in this order: the lowest that
+ * applies is returned, and never without its cause. */
+enum whitebeamish_refusal {
+    WHITEBEAMISH_OK = 0,             /* accepted */
+    WHITEBEAMISH_NO_MODULUS = 1,     /* p is not a prime from 2 to 929 */
+    WHITEBEAMISH_OUT_OF_RANGE = 2,   /* n, k, s or tau is outside its range */
+    WHITEBEAMISH_TOO_FEW_TERMS = 3,  /* U <= C: too much damage is to be allowed for this multiplicity */
+    WHITEBEAMISH_LIST_TOO_LONG = 4,  /* l > 24 */
+    WHITEBEAMISH_WRONG_LENGTH = 5,   /* points or word not n long, message not k, proposed curve not (l + 1) * W */
+    WHITEBEAMISH_NO_SYMBOL = 6,      /* a symbol in any of these not below p */
+    WHITEBEAMISH_EQUAL_POINTS = 7,   /* two equal points */
+    WHITEBEAMISH_TOO_LITTLE_ROOM = 8, /* output, curve buffer or work shorter than its room */
+    WHITEBEAMISH_CURVE_FAILS = 9     /* list only: the proposed curve does not pass */
+};
+
+/* ---- Pointers, for every call ----
+ *
+ * A buffer is a pointer and then its length, the count of its numbers and not of bytes.
+ * - A pointer is not null, also where the length is 0, and is aligned for its type.
+ * - All of the length can be read, and written where the pointer is not const.
+ * - A buffer that is written (output, curve buffer, work, answer) overlaps no other buffer of the call. Nothing else
+ *   reads or writes it while the call runs. Those behind a const pointer may overlap each other.
+ * The library cannot test these; where one is broken, nothing is promised. All else is tested: every number and every
+ * length is answered. What a lent buffer holds before the call does not matter.
+ *
+ * A refused call changes no buffer but the answer. The library keeps nothing between calls and has no memory of its
+ * own, so calls with different buffers may run at the same time.
+ *
+ * The answer: results other than the refusal number go to its front, as many of them as it holds. An answer that is
+ * shorter gets the first ones, a longer one keeps its further places. A refused call's results are all 0. */
+
+/* ---- The field ---- */
+
+/* Whether p is a modulus: a prime from 2 to 929. */
+bool whitebeamish_is_modulus(size_t p);
+
+/* a + b, a - b and a * b modulo p. Answer: 1 number, the symbol. Refusals: 1; 6 where a or b is not below p. */
+uint16_t whitebeamish_sum(size_t p, uint16_t a, uint16_t b, size_t *answer, size_t answer_length);
+uint16_t whitebeamish_difference(size_t p, uint16_t a, uint16_t b, size_t *answer, size_t answer_length);
+uint16_t whitebeamish_product(size_t p, uint16_t a, uint16_t b, size_t *answer, size_t answer_length);
+
+/* The symbol b for which a * b leaves 1 on division by p; for a = 0 it is 0.
+ * Answer: 1 number, the symbol. Refusals: 1; 6 where a is not below p. */
+uint16_t whitebeamish_inverse(size_t p, uint16_t a, size_t *answer, size_t answer_length);
+
+/* ---- The setting ---- */
+
+/* Answer: 5 numbers, W, l, C, U and R. Refusals: 1, 2, 3, 4. */
+uint16_t whitebeamish_setting(size_t p, size_t n, size_t k, size_t s, size_t tau,
+                              size_t *answer, size_t answer_length);
+
+/* ---- Writing a patch ---- */
+
+/* The first n numbers of output become the patch of the message; the rest of output is untouched. No answer.
+ * Refusals: 1; 2 for n or k; 5; 6; 7; 8 where output is shorter than n. */
+uint16_t whitebeamish_encode(size_t p, size_t n, size_t k,
+                             const uint16_t *points, size_t points_length,
+                             const uint16_t *message, size_t message_length,
+                             uint16_t *output, size_t output_length);
+
+/* ---- Reading ---- */
+
+/* Whether a proposed curve passes for the word: it is not zero; each coefficient with i + t * (k - 1) >= W is zero; and
+ * at each place each Hasse derivative of order a, b with a + b < s is zero. Writes to nothing but the answer.
+ * Answer: 1 number, 1 for yes and 0 for no. Refusals: 1 to 7. */
+uint16_t whitebeamish_check(size_t p, size_t n, size_t k, size_t s, size_t tau,
+                            const uint16_t *points, size_t points_length,
+                            const uint16_t *word, size_t word_length,
+                            const uint16_t *curve, size_t curve_length,
+                            size_t *answer, size_t answer_length);
+
+/* Finds a curve that passes for the word; under every accepted setting there is one. No answer.
+ * Afterwards: the first (l + 1) * W numbers of curve are the curve found, the first R of work are 0, and the rest of
+ * both is untouched. Refusals: 1 to 7; 8 where curve is shorter than (l + 1) * W or work than R. */
+uint16_t whitebeamish_find(size_t p, size_t n, size_t k, size_t s, size_t tau,
+                           const uint16_t *points, size_t points_length,
+                           const uint16_t *word, size_t word_length,
+                           uint16_t *curve, size_t curve_length,
+                           uint16_t *work, size_t work_length);
+
+/* Lists, from a curve that somebody proposes, every message of k symbols that agrees with the word in at least
+ * n - tau places: each once, smaller constant term first, then smaller coefficient of x, and so on.
+ * Answer: 2 numbers, the list length (at most l) and the beginnings that the search tried (at most 1 + l * k).
+ * Afterwards: message number j of the list, from 0, starts at output[j * k]; places behind the list are untouched.
+ * The first R numbers of work are 0, the rest is untouched.
+ * Refusals: 1 to 7; 8 where output is shorter than l * k or work than R; 9 where the curve does not pass. */
+uint16_t whitebeamish_list(size_t p, size_t n, size_t k, size_t s, size_t tau,
+                           const uint16_t *points, size_t points_length,
+                           const uint16_t *word, size_t word_length,
+                           const uint16_t *curve, size_t curve_length,
+                           uint16_t *output, size_t output_length,
+                           uint16_t *work, size_t work_length,
+                           size_t *answer, size_t answer_length);
+
+/* Finds a curve and lists from it: the same list, whatever curve is found.
+ * Answer: 2 numbers, the list length and the beginnings that the search tried.
+ * Afterwards: output and work as after whitebeamish_list, curve as after whitebeamish_find.
+ * Refusals: 1 to 7; 8 where output is shorter than l * k, curve than (l + 1) * W or work than R. */
+uint16_t whitebeamish_read(size_t p, size_t n, size_t k, size_t s, size_t tau,
+                           const uint16_t *points, size_t points_length,
+                           const uint16_t *word, size_t word_length,
+                           uint16_t *output, size_t output_length,
+                           uint16_t *curve, size_t curve_length,
+                           uint16_t *work, size_t work_length,
+                           size_t *answer, size_t answer_length);
+
+#ifdef __cplusplus
+}
+#endif
+
+#endif
