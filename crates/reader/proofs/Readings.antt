@@ -1,21 +1,23 @@
 -- Demands 2 and 3 of the calls. An accepted listing or reading gives every message that agrees with the word in at least n−τ places,
--- in order, and tries at most 1 + ℓ·k beginnings.
-use mathlib.Core.Path.{_≡_, refl, sym, ap, _∙_}
+-- in order, and the beginnings that it tries are those alive for the curve used: at most ℓ of each length, 1 + ℓ·k in all.
+use mathlib.Core.Path.{_≡_, refl, sym, ap, subst, _∙_}
 use mathlib.Core.Bool.{Bool, true, false, cond, not, _&&_, _||_}
 use mathlib.Core.List.{List, [], flatten}
-use Prim.Native.Nat.{ℕ, _+_, _-_, _*_, _≤_}
+use Prim.Native.Nat.{ℕ, suc, _+_, _-_, _*_, _≤_, _<_}
 use native.Mathlib.Omega.{arith}
 use lib.Dec.{T, eqb, ltb, eqb→eq}
 use lib.ListN.{length}
 use native.Mathlib.Decide.{ℕ-discrete}
 use borrow.Author.Tests.{eqb-true, ne-eqb, not-false}
 use Rattle.rules.specs.Field.{ops}
-use Rattle.rules.specs.Code.{triples, readings}
+use Rattle.rules.specs.Code.{triples, zeros, readings}
+use Rattle.rules.specs.Search.{rows, stripped, alive}
 use Rattle.rules.specs.Setting.{Setting, W, ℓ, curve-length, R}
 use Rattle.rules.specs.Refusal.{setting-causes, setting-refusal, word-causes, curve-causes, long, under, fits, list-refusal, read-refusal}
 use Rattle.rules.specs.Outcome.{Listing, Reading, over, cleared, used, usable, list-of, tried-of, list-call, read-call, Reads}
 use Rattle.rules.proofs.Tests.{both}
 use Rattle.demands.proofs.Listing.{list-readings}
+use Rattle.demands.proofs.Beginnings.{few-alive}
 use Rattle.search.proofs.Start.{bound}
 use Rattle.setting.specs.Accepted.{Accepted}
 use Rattle.setting.proofs.Accepted.{accepted}
@@ -26,10 +28,13 @@ use Rattle.reader.proofs.Pair.{Pair, pair, pair-named, proposed, propos
 use Rattle.reader.proofs.Scoring.{under-at}
 use Rattle.reader.proofs.First.{setting-named}
 
--- the list and its length are those of demand 2, and the beginnings are as few as demand 3 says
-pub record Answer (S : Setting) (points word : List ℕ) (found tried : ℕ) (output output′ : List ℕ) : Type 0 where
+-- the list and its length are those of demand 2, and the beginnings are those that the search rule keeps alive for the curve Q, as few as demand 3 says
+pub record Answer (S : Setting) (points word Q : List ℕ) (found tried : ℕ) (output output′ : List ℕ) : Type 0 where
   pub list : found ≡ length (readings (ops (S .p)) (S .k) (S .n - S .τ) points word)
   pub written : output′ ≡ over (flatten (readings (ops (S .p)) (S .k) (S .n - S .τ) points word)) output
+  pub counted : tried ≡ tried-of S Q
+  -- of each length from 1 on
+  pub each : (L : ℕ) → alive (ops (S .p)) (suc L) (stripped (ops (S .p)) (rows (W S) (ℓ S + 1) Q)) ≤ ℓ S
   pub few : tried ≤ 1 + ℓ S * S .k
 
 module _ (S : Setting) (points word Q : List ℕ) where
@@ -48,17 +53,32 @@ module _ (S : Setting) (points word Q : List ℕ) where
         list-readings S points word Q (a .prime) (omega (arith, a .ranged .code .k-least)) (a .ranged .s-least)
         (unfold under in f .given .points-under) (f .given .apart) (f .passing)
 
+    live : T (not (zeros (ops (S .p)) Q))
+    unfolding fits
+    live = passing-parts (S .p) (S .k) (W S) (ℓ S) (triples (S .s) points word) Q (f .passing) .0
+
+    wide : 0 < W S
+    wide = omega (arith, f .setting .W-least, f .setting .passed .ranged .code .k-least)
+
+    fit-each : (L : ℕ) → alive (ops (S .p)) (suc L) (stripped (ops (S .p)) (rows (W S) (ℓ S + 1) Q)) ≤ ℓ S
+    unfolding curve-length
+    fit-each L = few-alive (S .p) (f .setting .passed .prime) (W S) (ℓ S) L Q wide (f .whole) live
+
     fit-tried : tried-of S Q ≤ 1 + ℓ S * S .k
-    unfolding tried-of curve-length fits
+    unfolding tried-of curve-length
     fit-tried =
-        let a = f .setting in
-        let live = passing-parts (S .p) (S .k) (W S) (ℓ S) (triples (S .s) points word) Q (f .passing) .0 in
-        bound (S .p) (a .passed .prime) (S .k) (W S) (ℓ S) Q (omega (arith, a .W-least, a .passed .ranged .code .k-least)) (f .whole)
+        bound (S .p) (f .setting .passed .prime) (S .k) (W S) (ℓ S) Q wide (f .whole)
         (λ j l. under-at (S .p) Q (f .small) j (omega (arith, f .whole))) live
 
     answer : (output : List ℕ) → let fs = list-of S points word Q in
-        Answer S points word (length fs) (tried-of S Q) output (over (flatten fs) output)
-    answer output = record { list = ap length fit-readings; written = ap (λ fs. over (flatten fs) output) fit-readings; few = fit-tried }
+        Answer S points word Q (length fs) (tried-of S Q) output (over (flatten fs) output)
+    answer output = record {
+      list = ap length fit-readings;
+      written = ap (λ fs. over (flatten fs) output) fit-readings;
+      counted = refl;
+      each = fit-each;
+      few = fit-tried;
+    }
 
 -- the refusal of an outcome that is chosen by its number
 module _ {A : Type 0} (refusal : A → ℕ) (number : ℕ) (o r : A) (is-0 : refusal o ≡ 0) (is : refusal r ≡ number) where
@@ -92,7 +112,7 @@ module _ (S : Setting) (points word Q output work : List ℕ) where
       }
 
   pub list-reads : (o : Listing) → o ≡ list-call S points word Q output work → o .refusal ≡ 0
-      → Answer S points word (o .found) (o .tried) output (o .output)
+      → Answer S points word Q (o .found) (o .tried) output (o .output)
   list-reads o e z = rw (e ∙ accepted-is) (answer S points word Q (list-fit none) output)
     where
       none : list-refusal S points word Q (length output) (length work) ≡ 0
@@ -131,8 +151,10 @@ module _ (S : Setting) (points word output curve work : List ℕ) where
       }
 
   pub read-reads : (o : Reading) → Reads S points word output curve work o → o .refusal ≡ 0
-      → Answer S points word (o .found) (o .tried) output (o .output)
-  read-reads o h z = rw (h .rest ∙ accepted-is) (answer S points word Q (read-fit none Q (h .passes z)) output)
+      → Answer S points word (used S (o .curve)) (o .found) (o .tried) output (o .output)
+  read-reads o h z =
+      subst (λ (o : Reading). Answer S points word Q (o .found) (o .tried) output (o .output)) (sym (h .rest ∙ accepted-is))
+      (answer S points word Q (read-fit none Q (h .passes z)) output)
     where
       Q : List ℕ
       Q = used S (o .curve)
