@@ -44,7 +44,8 @@ module _ (O : Ops) (L : Laws O) where
   stripped-live : (Q : List (List Symbol)) (t i : ℕ) → ¬ (cell O Q t i ≡ nil) → ¬ Zero O (firsts O (stripped O Q))
   stripped-live Q t i n z = by-cases (decLt i (width Q))
       (λ l. let r = stripped-is O L Q in
-      r .stop (omega (arith, stripped-kept O L _ _ _ r t i n)) (λ u. ap (cell O Q u) (sym (zero-add (r .v))) ∙ sym (r .moved u 0) ∙ sym (cell-firsts O L _ u) ∙ z u))
+      r .stop (omega (arith, stripped-kept O L _ _ _ r t i n))
+      (λ u. ap (cell O Q u) (sym (zero-add (r .v))) ∙ sym (r .moved u 0) ∙ sym (cell-firsts O L _ u) ∙ z u))
       (λ l. n (cell-width O L Q t i (omega arith)))
 
   stripped-short : (Q : List (List Symbol)) (m : ℕ) → ((t i : ℕ) → i < t → cell O Q t i ≡ nil) → ¬ (cell O Q m m ≡ nil) →
@@ -112,7 +113,8 @@ module _ (O : Ops) (L : Laws O) where
   mult-sum : (h : List Symbol) (d : ℕ) → ¬ Zero O h → Short O (suc d) (coef O h) → sum (mult h) symbols ≤ d
   unfolding sum
   mult-sum h d n k = by-cases (decLe (sum (mult h) symbols) d) (λ l. l)
-      (λ l. absurd (n (root-count-short O L (suc d) h (repeated symbols) k (rw (same-places symbols) (apart symbols (L .once))) (each symbols) (omega (arith, same-count symbols)))))
+      (λ l. absurd (n (root-count-short O L (suc d) h (repeated symbols) k (rw (same-places symbols) (apart symbols (L .once))) (each symbols)
+      (omega (arith, same-count symbols)))))
     where
       repeated : List Symbol → List (Root O)
       repeated [] = []
@@ -143,7 +145,8 @@ module _ (O : Ops) (L : Laws O) where
       omega (
         arith,
         mult-sum (firsts O Q) d (h .live) (h .short),
-        sum-le (λ g. cond (follows O Q g) (w g) 0) m (λ g. either (λ x. x ≤ m g) _ _ (follows O Q g) (λ t. k g (follows-eval O L Q g .0 t)) (λ t. omega arith)) symbols,
+        sum-le (λ g. cond (follows O Q g) (w g) 0) m
+            (λ g. either (λ x. x ≤ m g) _ _ (follows O Q g) (λ t. k g (follows-eval O L Q g .0 t)) (λ t. omega arith)) symbols,
       )
 
   pub alive-few : (l : ℕ) (Q : List (List Symbol)) (d : ℕ) → Headed O d Q → alive O (suc l) Q ≤ d
@@ -184,7 +187,8 @@ module _ (O : Ops) (L : Laws O) where
   place [] t = absurd t
   place (c ∷ Q) t = go (same c nil) refl (λ u. let r = place Q u in (suc (r .0), omega (arith, r .1), r .2)) t
     where
-      go : (b : Bool) → same c nil ≡ b → (T (not (zeros O Q)) → (j : ℕ) × (j < length (c ∷ Q)) × ¬ (getD (c ∷ Q) j nil ≡ nil)) → T (not (b && all (λ c. same c nil) Q)) → (j : ℕ) × (j < length (c ∷ Q)) × ¬ (getD (c ∷ Q) j nil ≡ nil)
+      go : (b : Bool) → same c nil ≡ b → (T (not (zeros O Q)) → (j : ℕ) × (j < length (c ∷ Q)) × ¬ (getD (c ∷ Q) j nil ≡ nil)) →
+          T (not (b && all (λ c. same c nil) Q)) → (j : ℕ) × (j < length (c ∷ Q)) × ¬ (getD (c ∷ Q) j nil ≡ nil)
       go true e k u = k u
       go false e k u = (0, omega arith, λ p. subst T e (same-if O L c nil p))
 
@@ -195,7 +199,8 @@ module _ (O : Ops) (L : Laws O) where
         let r = place Q t in
         let j = r .0 in
         let fits : j / W < ℓ + 1 = div-lt-iff-lt-mul w .1 (omega (arith, r .1)) in
-        let e : cell O (rows W (ℓ + 1) Q) (j / W) (j % W) ≡ getD Q j nil = cell-rows O L W (ℓ + 1) (j / W) (j % W) Q fits (mod-lt j w) ∙ ap (λ m. getD Q m nil) (div-add-mod' j W) in
+        let e : cell O (rows W (ℓ + 1) Q) (j / W) (j % W) ≡ getD Q j nil = cell-rows O L W (ℓ + 1) (j / W) (j % W) Q fits (mod-lt j w)
+        ∙ ap (λ m. getD Q m nil) (div-add-mod' j W) in
         stripped-headed (rows W (ℓ + 1) Q) ℓ (j / W) (j % W) (omega (arith, rows-length W (ℓ + 1) Q)) (λ z. r .2 (sym e ∙ z))
 
     -- "bounded by 1 + ℓ·k"

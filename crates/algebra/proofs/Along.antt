@@ -93,7 +93,18 @@ module _ (O : Ops) (L : Laws O) where
   entry-recentre r (s ∷ A) a zero =
       rw (expand-zero O L (λ s. s) (same-linear O L), plus-at, stretch-at, entry-recentre r A a zero, taylor-cons, plus-at, lone-zero, near-zero)
   entry-recentre r (s ∷ A) a (suc b) =
-      rw (expand-suc O L (λ s. s) (same-linear O L), plus-at, stretch-at, entry-recentre r A a (suc b), entry-recentre r A a b, taylor-cons, plus-at, lone-suc, near-suc, nil-add)
+      rw (
+        expand-suc O L (λ s. s) (same-linear O L),
+        plus-at,
+        stretch-at,
+        entry-recentre r A a (suc b),
+        entry-recentre r A a b,
+        taylor-cons,
+        plus-at,
+        lone-suc,
+        near-suc,
+        nil-add,
+      )
       (L .add-comm _ _)
 
   map-at : (α : Symbol) (a : ℕ) (Q : List (List Symbol)) → map (λ s. s a) (map (taylor O α) Q) ≡ map (λ q. taylor O α q a) Q
@@ -104,5 +115,8 @@ module _ (O : Ops) (L : Laws O) where
       ((a b : ℕ) → a + b < m → taylor² O α (eval O f α) a b Q ≡ nil) → Val O m (taylor O α (along O Q f))
   unfolding taylor²
   along-val Q f α m h =
-      rw (taylor-along, ← horner-expand O L (act O (near O α) f) (above α f) (λ s. s) (eval O f α) (above-linear α f) (same-linear O L) (λ s. refl) (act-above α f))
+      rw (
+        taylor-along,
+        ← horner-expand O L (act O (near O α) f) (above α f) (λ s. s) (eval O f α) (above-linear α f) (same-linear O L) (λ s. refl) (act-above α f),
+      )
       (horner-val O L (above α f) (λ k s. above-val k α f s) _ m (λ a b l. entry-recentre _ _ a b ∙ rw (map-at α a Q) (h a b l)))

@@ -77,7 +77,8 @@ module _ (O : Ops) (L : Laws O) (S : Space) where
 
   module _ {cs : List (Condition Symbol)} where
     pub meets-snoc : {Q : Curve O} (c : Condition Symbol) → Meets O S cs Q → value O S c Q ≡ nil → Meets O S (cs ++ (c ∷ [])) Q
-    meets-snoc {Q} c s e = record { each = λ k m. ⊎-elim (s .each k) (λ n. ap (λ x. value O S x Q) (List·Memᴰ·eq-of-singleton n) ∙ e) (List·Memᴰ·append-cases cs m) }
+    meets-snoc {Q} c s e =
+        record { each = λ k m. ⊎-elim (s .each k) (λ n. ap (λ x. value O S x Q) (List·Memᴰ·eq-of-singleton n) ∙ e) (List·Memᴰ·append-cases cs m) }
 
     pub meets-mix : {P Q : Curve O} {q : Symbol} → Meets O S cs P → Meets O S cs Q → Meets O S cs (mix O P q Q)
     meets-mix s t = record { each = λ k m. value-lin O L S k _ _ _ ∙ both _ _ _ (s .each k m) (t .each k m) }
@@ -135,7 +136,8 @@ module _ (O : Ops) (L : Laws O) (S : Space) where
     -- with fewer conditions than terms a curve is alive
     pub end : length cs < sum (λ t. S .wide - S .off t) (below (S .top + 1)) → (j : ℕ) × In S (d j) j
     unfolding below
-    end l = let e = sum-less d (λ t. S .wide - S .off t) 0 (S .top + 1) (omega (arith, B .size)) in (e .0, record { column = omega (arith, e .1); inside = omega (arith, e .2) })
+    end l = let e = sum-less d (λ t. S .wide - S .off t) 0 (S .top + 1) (omega (arith, B .size)) in
+        (e .0, record { column = omega (arith, e .1); inside = omega (arith, e .2) })
 
     module _ {c : Condition Symbol} {p : ℕ} {d′ : ℕ → ℕ} {g′ : ℕ → Curve O} (r : Ready cs c) (P : Pivot O S c p d g d′ g′) where
       M : Monic O S (g p) (d p) p
@@ -160,13 +162,15 @@ module _ (O : Ops) (L : Laws O) (S : Space) where
           go : Dec (P .ratio j ≡ nil) → Monic O S (mix O (g j) (P .ratio j) (g p)) (d j) j
           go (yes e) = monic-same (mix-nil (g j) (P .ratio j) (g p) e) (B .monic j a)
           go (no e) =
-              let l = P .first j a (λ z. P .fails (no-zero-divisor O L _ _ e (sym (nil-add O L _) ∙ ap (λ x. add x (mul (P .ratio j) (value O S c (g p)))) (sym z) ∙ P .clears j a n))) in
+              let l = P .first j a (λ z. P .fails
+              (no-zero-divisor O L _ _ e (sym (nil-add O L _) ∙ ap (λ x. add x (mul (P .ratio j) (value O S c (g p)))) (sym z) ∙ P .clears j a n))) in
               let apart : ¬ (rank S (d p) p ≡ rank S (d j) j) = λ q. n (sym (rank-eq S _ _ _ _ (P .alive .column) (a .column) q .1)) in
               monic-mix (B .monic j a) (monic-below _ M (omega arith))
 
       other-meets : (j : ℕ) → In S (d j) j → ¬ (j ≡ p) → Meets O S (cs ++ (c ∷ [])) (g′ j)
       other-meets j a n =
-          meets-same (P .reduce j a n) (meets-snoc c (meets-mix (B .meets j a) (B .meets p (P .alive))) (value-lin O L S c (g j) (P .ratio j) (g p) ∙ P .clears j a n))
+          meets-same (P .reduce j a n)
+          (meets-snoc c (meets-mix (B .meets j a) (B .meets p (P .alive))) (value-lin O L S c (g j) (P .ratio j) (g p) ∙ P .clears j a n))
 
       pub step : Basis O S (cs ++ (c ∷ [])) d′ g′
       unfolding below
@@ -175,7 +179,12 @@ module _ (O : Ops) (L : Laws O) (S : Space) where
         fit = λ j h. fits j h (ℕ-discrete j p);
         monic = λ j a. monic′ j a (ℕ-discrete j p);
         meets = λ j a. meets′ j a (ℕ-discrete j p);
-        size = omega (arith, B .size, length-append cs (c ∷ []), sum-grow d d′ p 0 (S .top + 1) (omega arith) (omega (arith, P .alive .column)) (P .grow) (λ j l. P .stay j (omega arith)));
+        size = omega (
+          arith,
+          B .size,
+          length-append cs (c ∷ []),
+          sum-grow d d′ p 0 (S .top + 1) (omega arith) (omega (arith, P .alive .column)) (P .grow) (λ j l. P .stay j (omega arith)),
+        );
       }
         where
           back : (j : ℕ) → ¬ (j ≡ p) → In S (d′ j) j → In S (d j) j

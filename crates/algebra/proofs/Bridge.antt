@@ -56,9 +56,12 @@ module _ (O O′ : Ops) (φ : O .Symbol → O′ .Symbol) (H : Hom O O′ φ) wh
   pub messages-hom : (k : ℕ) → map (map φ) (messages O k) ≡ messages O′ k
   unfolding messages
   messages-hom zero = refl
-  messages-hom (suc k) = map-flatMap φ (map φ) _ _ (λ g. map-square (_∷_ g) (map φ) (map φ) (_∷_ (φ g)) (λ f. refl) (messages O k) ∙ ap (map (_∷_ (φ g))) (messages-hom k)) (O .symbols) ∙ ap (flatMap (λ g. map (_∷_ g) (messages O′ k))) (H .symbols)
+  messages-hom (suc k) = map-flatMap φ (map φ) _ _
+      (λ g. map-square (_∷_ g) (map φ) (map φ) (_∷_ (φ g)) (λ f. refl) (messages O k) ∙ ap (map (_∷_ (φ g))) (messages-hom k)) (O .symbols)
+      ∙ ap (flatMap (λ g. map (_∷_ g) (messages O′ k))) (H .symbols)
 
-  pub sifted-hom : (m : ℕ) (zs : List (Triple Symbol)) (fs : List (List Symbol)) → map (map φ) (sifted O m zs fs) ≡ sifted O′ m (map (move φ) zs) (map (map φ) fs)
+  pub sifted-hom : (m : ℕ) (zs : List (Triple Symbol)) (fs : List (List Symbol)) →
+      map (map φ) (sifted O m zs fs) ≡ sifted O′ m (map (move φ) zs) (map (map φ) fs)
   unfolding sifted
   sifted-hom m zs fs = map-keep (map φ) _ _ (λ f. simp score-hom) fs
 
@@ -100,7 +103,8 @@ module _ (O O′ : Ops) (φ : O .Symbol → O′ .Symbol) (H : Hom O O′ φ) wh
 
   pub passes-hom : (k W ℓ : ℕ) (zs : List (Triple Symbol)) (Q : List Symbol) → passes O k W ℓ zs Q ≡ passes O′ k W ℓ (map (move φ) zs) (map φ Q)
   unfolding passes
-  passes-hom k W ℓ zs Q = simp (zeros-hom, weighted-hom, all-map) (ap (λ test. not (zeros O′ (map φ Q)) && weighted O′ k W ℓ (map φ Q) && all test zs) (fun-ext (through-hom W ℓ Q)))
+  passes-hom k W ℓ zs Q = simp (zeros-hom, weighted-hom, all-map)
+      (ap (λ test. not (zeros O′ (map φ Q)) && weighted O′ k W ℓ (map φ Q) && all test zs) (fun-ext (through-hom W ℓ Q)))
 
   -- Search
 
@@ -116,7 +120,8 @@ module _ (O O′ : Ops) (φ : O .Symbol → O′ .Symbol) (H : Hom O O′ φ) wh
   pub strip-hom : (n : ℕ) (Q : List (List Symbol)) → map (map φ) (strip O n Q) ≡ strip O′ n (map (map φ) Q)
   unfolding strip
   strip-hom zero Q = refl
-  strip-hom (suc n) Q = map-cond (map (map φ)) (zeros O (firsts O Q)) _ _ ∙ simp (zeros-hom, firsts-hom, strip-hom n, map-square rest (map φ) (map φ) rest (map-rest φ) Q)
+  strip-hom (suc n) Q =
+      map-cond (map (map φ)) (zeros O (firsts O Q)) _ _ ∙ simp (zeros-hom, firsts-hom, strip-hom n, map-square rest (map φ) (map φ) rest (map-rest φ) Q)
 
   pub stripped-hom : (Q : List (List Symbol)) → map (map φ) (stripped O Q) ≡ stripped O′ (map (map φ) Q)
   unfolding stripped
@@ -165,6 +170,7 @@ module _ (O O′ : Ops) (φ : O .Symbol → O′ .Symbol) (H : Hom O O′ φ) wh
   unfolding roots
   roots-hom k Q = map-keep (map φ) _ _ (λ f. simp (zeros-hom, along-hom)) (messages O k) ∙ ap (keep _) (messages-hom k)
 
-  pub listed-hom : (k m : ℕ) (zs : List (Triple Symbol)) (Q : List (List Symbol)) → map (map φ) (listed O k m zs Q) ≡ listed O′ k m (map (move φ) zs) (map (map φ) Q)
+  pub listed-hom : (k m : ℕ) (zs : List (Triple Symbol)) (Q : List (List Symbol)) →
+      map (map φ) (listed O k m zs Q) ≡ listed O′ k m (map (move φ) zs) (map (map φ) Q)
   unfolding listed
   listed-hom k m zs Q = sifted-hom m zs (roots O k Q) ∙ ap (sifted O′ m (map (move φ) zs)) (roots-hom k Q)

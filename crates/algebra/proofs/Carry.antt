@@ -18,7 +18,8 @@ module _ {A B : Type 0} (φ : A → B) where
 
   at-hom : (z : Triple A) → map (carry φ) (conditions-at z) ≡ conditions-at (move φ z)
   unfolding conditions-at
-  at-hom z = map-flatMap (λ b. b) (carry φ) (conditions-along z) (conditions-along (move φ z)) (along-hom z) (below (z .times)) ∙ ap (flatMap (conditions-along (move φ z))) (map-id (below (z .times)))
+  at-hom z = map-flatMap (λ b. b) (carry φ) (conditions-along z) (conditions-along (move φ z)) (along-hom z) (below (z .times))
+      ∙ ap (flatMap (conditions-along (move φ z))) (map-id (below (z .times)))
 
   pub conditions-hom : (zs : List (Triple A)) → map (carry φ) (conditions zs) ≡ conditions (map (move φ) zs)
   unfolding conditions

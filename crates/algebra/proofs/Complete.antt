@@ -39,12 +39,14 @@ off true x y n = absurd (n tt)
 off false x y n = refl
 
 -- keeping by both tests is keeping by the second, where all that passes the second passes the first
-keep-keep : {A : Type 0} (P : A → Type 0) (test test′ : A → Bool) → ((x : A) → P x → T (test′ x) → T (test x)) → (xs : List A) → All P xs → keep test′ (keep test xs) ≡ keep test′ xs
+keep-keep : {A : Type 0} (P : A → Type 0) (test test′ : A → Bool) → ((x : A) → P x → T (test′ x) → T (test x)) → (xs : List A) → All P xs →
+    keep test′ (keep test xs) ≡ keep test′ xs
 unfolding keep
 keep-keep P test test′ h [] a = refl
 keep-keep P test test′ h (x ∷ xs) a = go (test x) (h x (a .0)) (keep-keep P test test′ h xs (a .1))
   where
-    go : (b : Bool) → (T (test′ x) → T b) → keep test′ (keep test xs) ≡ keep test′ xs → keep test′ (cond b (x ∷ keep test xs) (keep test xs)) ≡ cond (test′ x) (x ∷ keep test′ xs) (keep test′ xs)
+    go : (b : Bool) → (T (test′ x) → T b) → keep test′ (keep test xs) ≡ keep test′ xs →
+        keep test′ (cond b (x ∷ keep test xs) (keep test xs)) ≡ cond (test′ x) (x ∷ keep test′ xs) (keep test′ xs)
     go true k e = ap (λ ys. cond (test′ x) (x ∷ ys) ys) e
     go false k e = e ∙ sym (off (test′ x) _ _ k)
 
@@ -110,12 +112,15 @@ module _ (O : Ops) (L : Laws O) where
 
   -- The triples that a message meets are roots of Q(x, f(x)), as often as they say.
 
-  pub through-hasse : (W ℓ : ℕ) (Q : List Symbol) (z : Triple Symbol) → T (through O W ℓ Q z) → (a b : ℕ) → a + b < z .times → hasse O W ℓ Q (z .point) (z .symbol) a b ≡ nil
+  pub through-hasse : (W ℓ : ℕ) (Q : List Symbol) (z : Triple Symbol) → T (through O W ℓ Q z) → (a b : ℕ) → a + b < z .times →
+      hasse O W ℓ Q (z .point) (z .symbol) a b ≡ nil
   unfolding through
   through-hasse W ℓ Q z t a b h =
-      L .same-eq _ nil (below-at _ (z .times - a) b (below-at (λ a. all (λ b. same (hasse O W ℓ Q (z .point) (z .symbol) a b) nil) (below (z .times - a))) (z .times) a t (omega arith)) (omega arith))
+      L .same-eq _ nil (below-at _ (z .times - a) b
+      (below-at (λ a. all (λ b. same (hasse O W ℓ Q (z .point) (z .symbol) a b) nil) (below (z .times - a))) (z .times) a t (omega arith)) (omega arith))
 
-  through-at : (W ℓ : ℕ) (Q : List Symbol) (z : Triple Symbol) → T (through O W ℓ Q z) → (a b : ℕ) → a + b < z .times → taylor² O (z .point) (z .symbol) a b (rows W (ℓ + 1) Q) ≡ nil
+  through-at : (W ℓ : ℕ) (Q : List Symbol) (z : Triple Symbol) → T (through O W ℓ Q z) → (a b : ℕ) → a + b < z .times →
+      taylor² O (z .point) (z .symbol) a b (rows W (ℓ + 1) Q) ≡ nil
   through-at W ℓ Q z t a b h = sym (hasse-taylor O L W ℓ Q (z .point) (z .symbol) a b) ∙ through-hasse W ℓ Q z t a b h
 
   module _ (f : List Symbol) where
@@ -133,7 +138,8 @@ module _ (O : Ops) (L : Laws O) where
     score-met [] = refl
     score-met (z ∷ zs) = go (meets O f z) (score-met zs)
       where
-        go : (b : Bool) → score O zs f ≡ count O (met zs) → cond b (z .times) 0 + score O zs f ≡ count O (cond b (record { place = z .point; times = z .times } ∷ met zs) (met zs))
+        go : (b : Bool) → score O zs f ≡ count O (met zs) →
+            cond b (z .times) 0 + score O zs f ≡ count O (cond b (record { place = z .point; times = z .times } ∷ met zs) (met zs))
         go true e = ap (_+_ (z .times)) e
         go false e = omega (arith, e)
 

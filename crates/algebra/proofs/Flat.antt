@@ -49,7 +49,8 @@ module _ (O : Ops) (L : Laws O) (k W ℓ : ℕ) (zs : List (Triple (O .Symbol)))
           (λ l. each-place W (ℓ + 1) (λ m. getD Q m nil ≡ nil) (zero-at b) m (omega arith))
           (λ n. List·getD-eq-default Q nil (omega arith))
 
-      go : Below O (space k W ℓ) (coefficient O W Q) 0 ⊎ ((i : ℕ) × (t : ℕ) × Top O (space k W ℓ) (coefficient O W Q) i t) → (i : ℕ) × (t : ℕ) × Top O (space k W ℓ) (coefficient O W Q) i t
+      go : Below O (space k W ℓ) (coefficient O W Q) 0 ⊎ ((i : ℕ) × (t : ℕ) × Top O (space k W ℓ) (coefficient O W Q) i t) →
+          (i : ℕ) × (t : ℕ) × Top O (space k W ℓ) (coefficient O W Q) i t
       go (inl b) = absurd (T-not (zeros O Q) (passes-says O L k W ℓ zs Q p .some) (zeros-zero O L Q .1 (zero-all b)))
       go (inr T) = T
 

@@ -48,7 +48,8 @@ module _ (O : Ops) (L : Laws O) where
   rows-length W zero Q g = refl
   rows-length W (suc n) Q g = ap suc (rows-length W n (drop W Q) g)
 
-  column : (W : ℕ) (Q : List Symbol) (α : Symbol) (a t : ℕ) → total O W (λ i. mul (weight O α a i) (coefficient O W Q i t)) ≡ taylor O α (take W (drop (t * W) Q)) a
+  column : (W : ℕ) (Q : List Symbol) (α : Symbol) (a t : ℕ) →
+      total O W (λ i. mul (weight O α a i) (coefficient O W Q i t)) ≡ taylor O α (take W (drop (t * W) Q)) a
   unfolding coefficient
   column W Q α a t =
       total-ext O L W _ _ (λ i h. ap (mul (weight O α a i)) (sym (getD-take W _ i nil h ∙ getD-drop (t * W) Q i nil)))

@@ -96,14 +96,18 @@ module _ (O : Ops) (L : Laws O) (S : Space) where
       go : Dec (a ≡ suc i) → (a ≤ i → (h : Curve O) × Monic O S h i j × Meets O S cs h) → (h : Curve O) × Monic O S h (suc i) j × Meets O S cs h
       go (yes e) ih = (Q, rw e at M, s)
       go (no e) ih =
-          let r = ih (omega arith) in
-          (shift O (r .0), monic-shift O L S w (r .1), meets-shift O L S o (λ i′ t′ w′ m. r .1 .rest i′ t′ w′ (rank-lt S i j i′ t′ (w .column) (omega arith))) (r .2))
+          let r = ih (omega arith) in (
+            shift O (r .0),
+            monic-shift O L S w (r .1),
+            meets-shift O L S o (λ i′ t′ w′ m. r .1 .rest i′ t′ w′ (rank-lt S i j i′ t′ (w .column) (omega arith))) (r .2),
+          )
 
   module _ {cs : List (Condition Symbol)} {d : ℕ → ℕ} (H : Least O S cs d) where
     pub least-quiet : (c : Condition Symbol) → Least O S (cs ++ (c ∷ [])) d
     least-quiet c Q a j s T = H Q a j (front cs c s) T
 
-    module _ {g : ℕ → Curve O} (B : Basis O S cs d g) {c : Condition Symbol} {p : ℕ} {d′ : ℕ → ℕ} {g′ : ℕ → Curve O} (r : Ready cs c) (P : Pivot O S c p d g d′ g′) where
+    module _ {g : ℕ → Curve O} (B : Basis O S cs d g) {c : Condition Symbol} {p : ℕ} {d′ : ℕ → ℕ} {g′ : ℕ → Curve O} (r : Ready cs c)
+        (P : Pivot O S c p d g d′ g′) where
       -- a curve below the pivot's leading term meets the new condition
       under : (r : ℕ) (Q : Curve O) → r ≤ rank S (d p) p → Meets O S cs Q → Below O S Q r → value O S c Q ≡ nil
       under zero Q l s b = value-nil c Q b
@@ -111,7 +115,8 @@ module _ (O : Ops) (L : Laws O) (S : Space) where
         where
           go : Peeled Q n → ((Q′ : Curve O) → Meets O S cs Q′ → Below O S Q′ n → value O S c Q′ ≡ nil) → value O S c Q ≡ nil
           go (inl b′) ih = ih Q s b′
-          go (inr (i, t, e, T)) ih = finish (climb (order-snoc O L S c (B .order) r) (B .monic t al) (meets-snoc O L S c (B .meets t al) (calm (decide O L _ _))) i low (T .within))
+          go (inr (i, t, e, T)) ih =
+              finish (climb (order-snoc O L S c (B .order) r) (B .monic t al) (meets-snoc O L S c (B .meets t al) (calm (decide O L _ _))) i low (T .within))
             where
               low : d t ≤ i
               low = H Q i t s T
@@ -125,14 +130,16 @@ module _ (O : Ops) (L : Laws O) (S : Space) where
 
               finish : (h : Curve O) × Monic O S h i t × Meets O S (cs ++ (c ∷ [])) h → value O S c Q ≡ nil
               finish (h, M, m) =
-                  move (sym (value-lin O L S c Q _ h) ∙ ih _ (meets-mix O L S s (front cs c m)) (rw e at (cut Q h i t (T .rest) M))) ∙ ap (mul _) (last cs c m) ∙ mul-nil O L _
+                  move (sym (value-lin O L S c Q _ h) ∙ ih _ (meets-mix O L S s (front cs c m)) (rw e at (cut Q h i t (T .rest) M)))
+                  ∙ ap (mul _) (last cs c m) ∙ mul-nil O L _
 
       -- no curve with the pivot's leading term meets the new condition too
       clash : (Q : Curve O) → Meets O S (cs ++ (c ∷ [])) Q → Below O S Q (suc (rank S (d p) p)) → Q (d p) p ≡ nil
       clash Q s b = no-zero-divisor O L _ _ (P .fails) (L .mul-comm _ _ ∙ sym (move (sym (value-lin O L S c Q _ (g p)) ∙ nothing)) ∙ last cs c s)
         where
           nothing : value O S c (mix O Q (neg O (Q (d p) p)) (g p)) ≡ nil
-          nothing = under (rank S (d p) p) _ (omega arith) (meets-mix O L S (front cs c s) (B .meets p (P .alive))) (cut Q (g p) (d p) p b (B .monic p (P .alive)))
+          nothing = under (rank S (d p) p) _ (omega arith) (meets-mix O L S (front cs c s) (B .meets p (P .alive)))
+              (cut Q (g p) (d p) p b (B .monic p (P .alive)))
 
       pub least-step : Least O S (cs ++ (c ∷ [])) d′
       least-step Q a j s T = go (ℕ-discrete j p) (ℕ-discrete a (d p))
@@ -164,7 +171,8 @@ module _ (O : Ops) (L : Laws O) (S : Space) where
       -- a curve with the best greatest term is a multiple of the best
       multiple : (Q : Curve O) → Meets O S cs Q → Below O S Q (suc (rank S (d j) j)) → Same O S Q (λ i t. mul (Q (d j) j) (g j i t))
       multiple Q s b i t h =
-          move (vanish (rank S (d j) j) _ (omega arith) (meets-mix O L S s (B .meets j (T .alive))) (cut Q (g j) (d j) j b (B .monic j (T .alive))) i t h (omega arith))
+          move (vanish (rank S (d j) j) _ (omega arith) (meets-mix O L S s (B .meets j (T .alive)))
+          (cut Q (g j) (d j) j b (B .monic j (T .alive))) i t h (omega arith))
 
       pub answer : Answer O S cs (g j) (d j) j
       answer = record {

@@ -1,3 +1,4 @@
+-- The lemmas of the crate, each file after those that it rests on.
 pub mod Ring
 pub mod Seq
 pub mod Taylor
@@ -11,15 +12,15 @@ pub mod Hasse
 pub mod Rank
 pub mod Conditions
 pub mod Basis
+pub mod Rows
 pub mod Complete
 pub mod Agreement
 pub mod Plan
 pub mod Passes
 pub mod Least
 pub mod Solve
-pub mod Exists
 pub mod Flat
-pub mod Rows
+pub mod Exists
 pub mod Step
 pub mod Strip
 pub mod Search

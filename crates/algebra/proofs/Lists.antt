@@ -50,7 +50,8 @@ module _ {A B : Type 0} (φ : A → B) where
   map-rows W zero Q = refl
   map-rows W (suc n) Q = ap₂ _∷_ (map-take W Q) (map-rows W n (drop W Q) ∙ ap (rows W n) (map-drop W Q))
 
-  pub map-merge : (op : A → A → A) (op′ : B → B → B) → ((a b : A) → φ (op a b) ≡ op′ (φ a) (φ b)) → (s t : List A) → map φ (merge op s t) ≡ merge op′ (map φ s) (map φ t)
+  pub map-merge : (op : A → A → A) (op′ : B → B → B) → ((a b : A) → φ (op a b) ≡ op′ (φ a) (φ b)) → (s t : List A) →
+      map φ (merge op s t) ≡ merge op′ (map φ s) (map φ t)
   unfolding merge
   map-merge op op′ h [] t = refl
   map-merge op op′ h (a ∷ s) [] = refl
@@ -71,11 +72,13 @@ module _ {A B : Type 0} (φ : A → B) where
   map-width (q ∷ Q) = simp (map-length, map-width Q)
 
 -- two ways round a square, along a list
-pub map-square : {A B C D : Type 0} (f : A → B) (g : B → D) (h : A → C) (k : C → D) → ((a : A) → g (f a) ≡ k (h a)) → (xs : List A) → map g (map f xs) ≡ map k (map h xs)
+pub map-square : {A B C D : Type 0} (f : A → B) (g : B → D) (h : A → C) (k : C → D) → ((a : A) → g (f a) ≡ k (h a)) → (xs : List A) →
+    map g (map f xs) ≡ map k (map h xs)
 map-square f g h k e [] = refl
 map-square f g h k e (x ∷ xs) = ap₂ _∷_ (e x) (map-square f g h k e xs)
 
-pub map-flatMap : {A B C D : Type 0} (φ : A → C) (ψ : B → D) (w : A → List B) (v : C → List D) → ((a : A) → map ψ (w a) ≡ v (φ a)) → (xs : List A) → map ψ (flatMap w xs) ≡ flatMap v (map φ xs)
+pub map-flatMap : {A B C D : Type 0} (φ : A → C) (ψ : B → D) (w : A → List B) (v : C → List D) → ((a : A) → map ψ (w a) ≡ v (φ a)) → (xs : List A) →
+    map ψ (flatMap w xs) ≡ flatMap v (map φ xs)
 unfolding flatMap
 map-flatMap φ ψ w v h [] = refl
 map-flatMap φ ψ w v h (x ∷ xs) = map-append ψ (w x) (flatMap w xs) ∙ ap₂ _++_ (h x) (map-flatMap φ ψ w v h xs)

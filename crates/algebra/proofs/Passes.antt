@@ -59,8 +59,10 @@ module _ (O : Ops) (L : Laws O) where
         unfolding condition
         meets-through zs t = record { each = λ c m. go c (mem-condition zs m) }
           where
-            go : (c : Condition Symbol) → (z : Triple Symbol) × List·Memᴰ z zs × (a : ℕ) × (b : ℕ) × (a + b < z .times) × (c ≡ condition z b a) → value O (space k W ℓ) c (coefficient O W Q) ≡ nil
-            go c (z, m, a, b, l, e) = ap (λ c. value O (space k W ℓ) c (coefficient O W Q)) e ∙ sym (hasse-value (condition z b a)) ∙ through-hasse O L W ℓ Q z (all-at (through O W ℓ Q) z zs t m) a b l
+            go : (c : Condition Symbol) → (z : Triple Symbol) × List·Memᴰ z zs × (a : ℕ) × (b : ℕ) × (a + b < z .times) × (c ≡ condition z b a) →
+                value O (space k W ℓ) c (coefficient O W Q) ≡ nil
+            go c (z, m, a, b, l, e) = ap (λ c. value O (space k W ℓ) c (coefficient O W Q)) e ∙ sym (hasse-value (condition z b a))
+                ∙ through-hasse O L W ℓ Q z (all-at (through O W ℓ Q) z zs t m) a b l
 
         through-meets : (zs : List (Triple Symbol)) → Meets O (space k W ℓ) (conditions zs) (coefficient O W Q) → T (all (through O W ℓ Q) zs)
         unfolding condition

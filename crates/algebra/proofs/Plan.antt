@@ -43,9 +43,11 @@ module _ {B : Type 0} where
       ∙ sym (append-assoc cs _ _)
 
 module _ {A : Type 0} where
-  pub conditions-more : (zs : List (Triple A)) (j : ℕ) (z : Triple A) → j < length zs → conditions (take (suc j) zs) ≡ conditions (take j zs) ++ conditions-at (getD zs j z)
+  pub conditions-more : (zs : List (Triple A)) (j : ℕ) (z : Triple A) → j < length zs →
+      conditions (take (suc j) zs) ≡ conditions (take j zs) ++ conditions-at (getD zs j z)
   unfolding conditions
-  conditions-more zs j z l = ap (flatMap conditions-at) (take-suc zs j z l) ∙ flat-append conditions-at (take j zs) _ ∙ ap (_++_ (conditions (take j zs))) (flat-one conditions-at (getD zs j z))
+  conditions-more zs j z l = ap (flatMap conditions-at) (take-suc zs j z l) ∙ flat-append conditions-at (take j zs) _
+      ∙ ap (_++_ (conditions (take j zs))) (flat-one conditions-at (getD zs j z))
 
 pub length-from : (a n : ℕ) → length (from a n) ≡ n
 unfolding from
@@ -62,7 +64,8 @@ module _ {A : Type 0} where
   count-at : (z : Triple A) → length (conditions-at z) ≡ z .times * (z .times + 1) / 2
   unfolding conditions-at conditions-along below
   count-at z =
-      length-flatMap _ (below (z .times)) ∙ ap (λ f. sum f (below (z .times))) (fun-ext (λ b. length-map (below (z .times - b)) (condition z b) ∙ length-from 0 (z .times - b)))
+      length-flatMap _ (below (z .times)) ∙ ap (λ f. sum f (below (z .times)))
+      (fun-ext (λ b. length-map (below (z .times - b)) (condition z b) ∙ length-from 0 (z .times - b)))
       ∙ sym (div-eq-of-eq-mul-left (omega arith) (sym (triangle (z .times) 0 (z .times) (omega arith))))
 
   pub count : (zs : List (Triple A)) → length (conditions zs) ≡ sum (λ z. z .times * (z .times + 1) / 2) zs
@@ -111,7 +114,9 @@ module _ {A : Type 0} (zs : List (Triple A)) where
   pub condition-mem : {z : Triple A} → List·Memᴰ z zs → (a b : ℕ) → a + b < z .times → List·Memᴰ (condition z b a) (conditions zs)
   unfolding conditions conditions-at conditions-along below
   condition-mem {z} m a b l =
-      flat-mem conditions-at m (flat-mem (conditions-along z) (from-mem b 0 (z .times) (omega arith) (omega arith)) (map-mem (condition z b) (from-mem a 0 (z .times - b) (omega arith) (omega arith))))
+      flat-mem conditions-at m
+      (flat-mem (conditions-along z) (from-mem b 0 (z .times) (omega arith) (omega arith))
+      (map-mem (condition z b) (from-mem a 0 (z .times - b) (omega arith) (omega arith))))
 
   pub mem-condition : {c : Condition A} → List·Memᴰ c (conditions zs) →
       (z : Triple A) × List·Memᴰ z zs × (a : ℕ) × (b : ℕ) × (a + b < z .times) × (c ≡ condition z b a)

@@ -44,31 +44,6 @@ module _ (O : Ops) (L : Laws O) where
   pub nil-mul : (a : Symbol) → mul nil a ≡ nil
   nil-mul a = L .mul-comm _ _ ∙ mul-nil a
 
-  -- the laws themselves, by names that a rule set can list
-  pub add-assoc : (a b c : Symbol) → add (add a b) c ≡ add a (add b c)
-  add-assoc = L .add-assoc
-
-  pub add-comm : (a b : Symbol) → add a b ≡ add b a
-  add-comm = L .add-comm
-
-  pub add-nil : (a : Symbol) → add a nil ≡ a
-  add-nil = L .add-nil
-
-  pub mul-assoc : (a b c : Symbol) → mul (mul a b) c ≡ mul a (mul b c)
-  mul-assoc = L .mul-assoc
-
-  pub mul-comm : (a b : Symbol) → mul a b ≡ mul b a
-  mul-comm = L .mul-comm
-
-  pub mul-one : (a : Symbol) → mul a one ≡ a
-  mul-one = L .mul-one
-
-  pub mul-add : (a b c : Symbol) → mul a (add b c) ≡ add (mul a b) (mul a c)
-  mul-add = L .mul-add
-
-  -- the laws that sort a sum of products
-  pub ruleset ring = (add-assoc, add-comm, add-left-comm, add-nil, nil-add, mul-assoc, mul-comm, mul-left-comm, mul-one, one-mul, mul-add, add-mul, mul-nil, nil-mul)
-
   -- a difference that is zero
   pub sub-nil : (a b : Symbol) → add a (neg O b) ≡ nil → a ≡ b
   sub-nil a b e =
@@ -87,7 +62,8 @@ module _ (O : Ops) (L : Laws O) where
 
   pub of-add : (m n : ℕ) → ofNat (m + n) ≡ add (ofNat m) (ofNat n)
   of-add zero n = ap ofNat (zero-add n) ∙ sym (nil-add _) ∙ ap (λ x. add x (ofNat n)) (sym (L .of-zero))
-  of-add (suc m) n = ap ofNat (suc-add m n) ∙ L .of-suc (m + n) ∙ ap (add one) (of-add m n) ∙ sym (L .add-assoc _ _ _) ∙ ap (λ x. add x (ofNat n)) (sym (L .of-suc m))
+  of-add (suc m) n = ap ofNat (suc-add m n) ∙ L .of-suc (m + n) ∙ ap (add one) (of-add m n) ∙ sym (L .add-assoc _ _ _)
+      ∙ ap (λ x. add x (ofNat n)) (sym (L .of-suc m))
 
   pub of-one : ofNat 1 ≡ one
   of-one = L .of-suc 0 ∙ ap (add one) (L .of-zero) ∙ L .add-nil one

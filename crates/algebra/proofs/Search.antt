@@ -112,7 +112,8 @@ module _ (O : Ops) (L : Laws O) where
       turn : (g : Symbol) → found O k (next O g S) ≡ roots O k (step O g S) →
           cond (follows O S g) (map (_∷_ g) (found O k (next O g S))) [] ≡ keep (λ f. zeros O (along O Q f)) (map (_∷_ g) (messages O k))
       turn g ih =
-          let kept = map-keep (_∷_ g) (λ f. zeros O (along O (step O g S) f)) (λ f. zeros O (along O Q f)) (λ f. sym (stripped-test Q (g ∷ f) ∙ step-test g f S)) (messages O k) in
+          let kept = map-keep (_∷_ g) (λ f. zeros O (along O (step O g S) f)) (λ f. zeros O (along O Q f))
+          (λ f. sym (stripped-test Q (g ∷ f) ∙ step-test g f S)) (messages O k) in
           either (λ fs. fs ≡ keep (λ f. zeros O (along O Q f)) (map (_∷_ g) (messages O k))) _ _ (follows O S g) (λ t. ap (map (_∷_ g)) ih ∙ kept)
           (λ t. ap (map (_∷_ g)) (sym (keep-none _ (λ f z. T-not (follows O S g) t (follows-eval O L S g .1
           (sym (along-first O L S g f) ∙ ap (λ s. s zero) (sym (along-step O L g f S)) ∙ zeros-zero O L _ .0 z zero))) (messages O k))) ∙ kept)
@@ -177,10 +178,17 @@ module _ (O O′ : Ops) (φ : O .Symbol → O′ .Symbol) (H : Hom O O′ φ) wh
       Q′ = map (map φ) Q
 
       turn : (g : Symbol) → map (map φ) (found O k (next O g Q)) ≡ found O′ k (map (map φ) (next O g Q)) →
-          map (map φ) (cond (follows O Q g) (map (_∷_ g) (found O k (next O g Q))) []) ≡ cond (follows O′ Q′ (φ g)) (map (_∷_ (φ g)) (found O′ k (next O′ (φ g) Q′))) []
+          map (map φ) (cond (follows O Q g) (map (_∷_ g) (found O k (next O g Q))) [])
+          ≡ cond (follows O′ Q′ (φ g)) (map (_∷_ (φ g)) (found O′ k (next O′ (φ g) Q′))) []
       turn g ih =
           map-cond (map (map φ)) (follows O Q g) _ _
-          ∙ simp (follows-hom O O′ φ H, map-square (_∷_ g) (map φ) (map φ) (_∷_ (φ g)) (λ f. refl) (found O k (next O g Q)), ih, stripped-hom O O′ φ H, step-hom O O′ φ H)
+          ∙ simp (
+            follows-hom O O′ φ H,
+            map-square (_∷_ g) (map φ) (map φ) (_∷_ (φ g)) (λ f. refl) (found O k (next O g Q)),
+            ih,
+            stripped-hom O O′ φ H,
+            step-hom O O′ φ H,
+          )
 
   pub tried-hom : (k : ℕ) (Q : List (List Symbol)) → tried O k Q ≡ tried O′ k (map (map φ) Q)
   unfolding tried

@@ -113,7 +113,25 @@ module _ (O : Ops) (L : Laws O) where
   pub ruleset at = (plus-at, stretch-at, none-at, shift-zero, shift-suc, lone-zero, lone-suc)
 
   -- every law of the module, for simp
-  pub ruleset seq = (plus-assoc, plus-comm, plus-left-comm, plus-none, none-plus, stretch-plus, stretch-none, stretch-nil, stretch-add, stretch-mul, stretch-swap, shift-plus, shift-stretch, shift-none, lone-add, lone-mul, lone-nil)
+  pub ruleset seq = (
+    plus-assoc,
+    plus-comm,
+    plus-left-comm,
+    plus-none,
+    none-plus,
+    stretch-plus,
+    stretch-none,
+    stretch-nil,
+    stretch-add,
+    stretch-mul,
+    stretch-swap,
+    shift-plus,
+    shift-stretch,
+    shift-none,
+    lone-add,
+    lone-mul,
+    lone-nil,
+  )
 
   -- an operator that is additive and commutes with scaling
   pub record Linear (u : Seq O → Seq O) : Type 0 where
@@ -181,7 +199,15 @@ module _ (O : Ops) (L : Laws O) where
   horner-expand v u w r l k c e [] = unfold horner in refl
   horner-expand v u w r l k c e (s ∷ A) =
       horner-merge u l (s ∷ map w (expand O w r A)) (map (stretch O r) (expand O w r A))
-      ∙ rw (horner-cons u, horner-map u w k c, horner-map u (stretch O r) (stretch-linear r) (l .of-stretch r), horner-expand v u w r l k c e A, horner-cons, e, c) (simp seq)
+      ∙ rw (
+        horner-cons u,
+        horner-map u w k c,
+        horner-map u (stretch O r) (stretch-linear r) (l .of-stretch r),
+        horner-expand v u w r l k c e A,
+        horner-cons,
+        e,
+        c,
+      ) (simp seq)
 
   pub entry-nil : (b : ℕ) → entry O [] b ≡ (none O)
   unfolding entry

@@ -37,7 +37,8 @@ module _ (O : Ops) (L : Laws O) where
     unfolding cell
     step-from-zero i = rw (drop-cons Q u [] l) (step-zero O L g (getD Q u []) (drop (suc u) Q) i)
 
-    pub step-from-suc : (t i : ℕ) → cell O (step O g (drop u Q)) (suc t) i ≡ add (shift O (cell O (step O g (drop (suc u) Q)) t) i) (mul g (cell O (step O g (drop (suc u) Q)) (suc t) i))
+    pub step-from-suc : (t i : ℕ) →
+        cell O (step O g (drop u Q)) (suc t) i ≡ add (shift O (cell O (step O g (drop (suc u) Q)) t) i) (mul g (cell O (step O g (drop (suc u) Q)) (suc t) i))
     step-from-suc t i = rw (drop-cons Q u [] l) (step-suc O L g (getD Q u []) (drop (suc u) Q) t i)
 
   -- v columns of p that are zero are taken out, and v columns of zeros put behind
@@ -53,9 +54,12 @@ module _ (O : Ops) (L : Laws O) where
         moved = λ t i. by-cases (decLt t n)
             (λ l. by-cases (decLt (i + v) W)
             (λ m. cell-rows O L W n t i r l (omega arith) ∙ moved t i l m ∙ sym (cell-rows O L W n t (i + v) p l m))
-            (λ m. by-cases (decLt i W) (λ k. cell-rows O L W n t i r l k ∙ behind t i l k (omega arith)) (λ k. rows-wide O L W n t i r (omega arith)) ∙ sym (rows-wide O L W n t (i + v) p (omega arith))))
-            (λ l. cell-length O L (rows W n r) t i (omega (arith, rows-length W n r)) ∙ sym (cell-length O L (rows W n p) t (i + v) (omega (arith, rows-length W n p))));
-        clear = λ t i m. by-cases (decLt t n) (λ l. cell-rows O L W n t i p l (omega arith) ∙ clear t i l m) (λ l. cell-length O L (rows W n p) t i (omega (arith, rows-length W n p)));
+            (λ m. by-cases (decLt i W) (λ k. cell-rows O L W n t i r l k ∙ behind t i l k (omega arith)) (λ k. rows-wide O L W n t i r (omega arith))
+            ∙ sym (rows-wide O L W n t (i + v) p (omega arith))))
+            (λ l. cell-length O L (rows W n r) t i (omega (arith, rows-length W n r))
+            ∙ sym (cell-length O L (rows W n p) t (i + v) (omega (arith, rows-length W n p))));
+        clear = λ t i m. by-cases (decLt t n) (λ l. cell-rows O L W n t i p l (omega arith) ∙ clear t i l m)
+            (λ l. cell-length O L (rows W n p) t i (omega (arith, rows-length W n p)));
         stop = λ m z. stop m (λ t l. sym (cell-rows O L W n t v p l m) ∙ z t);
       })
       (λ t i m. rows-wide O L W n t i p m)
@@ -85,7 +89,8 @@ module _ (O : Ops) (L : Laws O) where
 
       -- r is searched, with k symbols to place, as the curve of the longer beginning is
       pub next-found : (k : ℕ) → Within O k W (rows W n s) → found O k (rows W n r) ≡ found O k (next O g (rows W n s))
-      next-found zero w = found-same O L 0 _ _ e ∙ found-stripped O L (rows W n p) ∙ found-row O L _ _ (next-row w) ∙ sym (found-stripped O L (step O g (rows W n s)))
+      next-found zero w = found-same O L 0 _ _ e ∙ found-stripped O L (rows W n p) ∙ found-row O L _ _ (next-row w)
+          ∙ sym (found-stripped O L (step O g (rows W n s)))
       next-found (suc k) w = found-same O L (suc k) _ _ (next-cells k w)
 
       pub next-tried : (k : ℕ) → Within O k W (rows W n s) → tried O k (rows W n r) ≡ tried O k (next O g (rows W n s))

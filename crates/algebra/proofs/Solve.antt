@@ -72,7 +72,8 @@ module _ (O : Ops) (L : Laws O) (S : Space) where
   best : (d : ℕ → ℕ) (k : ℕ) → In S (d k) k → (j : ℕ) × Best S d j
   best d k a = go (argmin (λ i. In S (d i) i) (alive? d) (λ i. rank S (d i) i) (suc (S .top)))
     where
-      go : ((i : ℕ) → i < suc (S .top) → ¬ (In S (d i) i)) ⊎ ((j : ℕ) × Min (λ i. In S (d i) i) (alive? d) (λ i. rank S (d i) i) (suc (S .top)) j) → (j : ℕ) × Best S d j
+      go : ((i : ℕ) → i < suc (S .top) → ¬ (In S (d i) i)) ⊎ ((j : ℕ) × Min (λ i. In S (d i) i) (alive? d) (λ i. rank S (d i) i) (suc (S .top)) j) →
+          (j : ℕ) × Best S d j
       go (inl h) = absurd (h k (omega arith) a)
       go (inr (j, m)) = (j, record { alive = m .has; least = λ i b. m .least i (omega arith) b })
 
@@ -144,7 +145,8 @@ module _ (O : Ops) (L : Laws O) (S : Space) where
   at : (cs : List (Condition Symbol)) (z : Triple Symbol) (n : ℕ) → State cs → State (cs ++ flatMap (conditions-along z) (below n))
   unfolding below from flatMap conditions-along
   at cs z zero s = subst State (sym (append-nil cs)) s
-  at cs z (suc n) s = subst State (sym (flat-more cs (conditions-along z) n)) (along (cs ++ flatMap (conditions-along z) (below n)) z n (z .times - n) (at cs z n s))
+  at cs z (suc n) s = subst State (sym (flat-more cs (conditions-along z) n))
+      (along (cs ++ flatMap (conditions-along z) (below n)) z n (z .times - n) (at cs z n s))
 
   run : (zs : List (Triple Symbol)) (cs : List (Condition Symbol)) → State cs → State (cs ++ conditions zs)
   unfolding conditions conditions-at flatMap
@@ -152,7 +154,8 @@ module _ (O : Ops) (L : Laws O) (S : Space) where
   run (z ∷ zs) cs s = subst State (append-assoc cs (conditions-at z) (conditions zs)) (run zs (cs ++ conditions-at z) (at cs z (z .times) s))
 
   -- Fewer conditions than terms have an answer.
-  pub solve : (zs : List (Triple Symbol)) → ((j : ℕ) → j ≤ S .top → S .off j ≤ S .wide) → length (conditions zs) < sum (λ t. S .wide - S .off t) (below (S .top + 1)) →
+  pub solve : (zs : List (Triple Symbol)) → ((j : ℕ) → j ≤ S .top → S .off j ≤ S .wide) →
+      length (conditions zs) < sum (λ t. S .wide - S .off t) (below (S .top + 1)) →
       (P : Curve O) × (a : ℕ) × (j : ℕ) × Answer O S (conditions zs) P a j
   solve zs f l =
       let s = run zs [] (record { d = λ _. 0; g = power; basis = start O L S power f (λ j w. here j (ℕ-discrete j j)) apart; least = least-start O L S }) in

@@ -80,7 +80,8 @@ module _ (O : Ops) (L : Laws O) where
   step-row g Q t = fun-ext λ i. sym (cell-entry O L (step O g Q) t i) ∙ ap (λ A. entry O A t i) (rows-step g Q)
 
   -- the coefficients of the step, row by row
-  pub step-zero : (g : Symbol) (q : List Symbol) (Q : List (List Symbol)) (i : ℕ) → cell O (step O g (q ∷ Q)) zero i ≡ add (coef O q i) (mul g (cell O (step O g Q) zero i))
+  pub step-zero : (g : Symbol) (q : List Symbol) (Q : List (List Symbol)) (i : ℕ) →
+      cell O (step O g (q ∷ Q)) zero i ≡ add (coef O q i) (mul g (cell O (step O g Q) zero i))
   step-zero g q Q i = rw (step-row g (q ∷ Q), step-row g Q, expand-zero O L (shift O) (shift-linear O L), plus-at, stretch-at)
 
   pub step-suc : (g : Symbol) (q : List Symbol) (Q : List (List Symbol)) (t i : ℕ) →

@@ -72,7 +72,11 @@ module _ (O : Ops) (L : Laws O) where
         v = suc (r .v);
         small = omega (arith, r .small);
         moved = λ t i. r .moved t i ∙ cell-rest O L Q t (i + r .v) ∙ ap (cell O Q t) (sym (add-suc i (r .v)));
-        clear = λ t. elim [ zero ↦ λ l. sym (cell-firsts O L Q t) ∙ zeros-zero O L (firsts O Q) .0 h t | suc i ↦ λ l. sym (cell-rest O L Q t i) ∙ r .clear t i (omega arith) ];
+        clear = λ t. elim [
+          | zero ↦ λ l. sym (cell-firsts O L Q t) ∙ zeros-zero O L (firsts O Q) .0 h t
+          | suc i ↦ λ l. sym (cell-rest O L Q t i)
+              ∙ r .clear t i (omega arith)
+        ];
         stop = λ l z. r .stop (omega arith) (λ t. cell-rest O L Q t (r .v) ∙ z t);
       })
       (λ h. record {

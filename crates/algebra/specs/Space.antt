@@ -132,5 +132,6 @@ module _ (O : Ops) where
     pub i : ℕ
     pub t : ℕ
     pub monic : Monic (space k W ℓ) (coefficient O W Q) i t
-    pub least : (P : List Symbol) (a j : ℕ) → T (passes O k W ℓ zs P) → Top (space k W ℓ) (coefficient O W P) a j → rank (space k W ℓ) i t ≤ rank (space k W ℓ) a j
+    pub least : (P : List Symbol) (a j : ℕ) → T (passes O k W ℓ zs P) → Top (space k W ℓ) (coefficient O W P) a j →
+        rank (space k W ℓ) i t ≤ rank (space k W ℓ) a j
     pub only : (P : List Symbol) → length P ≡ (ℓ + 1) * W → T (passes O k W ℓ zs P) → Monic (space k W ℓ) (coefficient O W P) i t → P ≡ Q

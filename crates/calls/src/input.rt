@@ -1,6 +1,4 @@
 // Two-byte numbers from standard input.
-ghost use Prim.Native.Nat.{_≤_};
-ghost use lib.ListN.{length};
 
 // The number of two bytes, the low one first.
 fn joined(low: u8, high: u8) -> u16 {

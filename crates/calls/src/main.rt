@@ -50,7 +50,7 @@ fn put_front(run: &[u16], n: usize) {
     }
 }
 
-// The rows of a curve, and their width.
+// The rows of a curve for the case's setting, 0 where there are too many for the buffers.
 fn rows(c: Case) -> usize {
     let d = setting::derive(c.p, c.n, c.k, c.s, c.tau);
     if 24 < d.l {
@@ -59,6 +59,7 @@ fn rows(c: Case) -> usize {
     d.l + 1
 }
 
+// The width of a row.
 fn width(c: Case) -> usize {
     let d = setting::derive(c.p, c.n, c.k, c.s, c.tau);
     d.w
@@ -101,6 +102,7 @@ fn put_places(a: usize, b: usize, run: &[u16]) {
     put_front(run, places(a, b) + 1);
 }
 
+// The check: its answer as 1 or 0.
 fn check(c: Case, points: &[u16], word: &[u16], curve: &[u16]) {
     let o = reader::check(c.p, c.n, c.k, c.s, c.tau, points, word, curve);
     put(o.refusal as usize);
@@ -112,7 +114,7 @@ fn check(c: Case, points: &[u16], word: &[u16], curve: &[u16]) {
     put_front(curve, 0);
 }
 
-// Listing and reading: how much of work is cleared, and the list.
+// Listing from the case's curve: how much of work is cleared, and the list.
 fn listed(c: Case, points: &[u16], word: &[u16], curve: &[u16]) {
     let mut output = [OLD; 1537];
     let mut work = [OLD; 60000];
@@ -133,6 +135,7 @@ fn listed(c: Case, points: &[u16], word: &[u16], curve: &[u16]) {
     put_places(o.found, c.k, &output);
 }
 
+// Reading: the same, with a curve that the call finds.
 fn readings(c: Case, points: &[u16], word: &[u16]) {
     let mut output = [OLD; 1537];
     let mut curve = [OLD; 6400];
@@ -154,6 +157,7 @@ fn readings(c: Case, points: &[u16], word: &[u16]) {
     put_places(o.found, c.k, &output);
 }
 
+// The call that the case names.
 fn run(c: Case, points: &[u16], word: &[u16], curve: &[u16]) {
     let call = c.call;
     if call == 1 {
@@ -208,10 +212,12 @@ fn turn() -> bool {
     true
 }
 
+// A number of the input, as wide as the calls take it.
 fn wide(x: u16) -> usize {
     x as usize
 }
 
+// The seven numbers that a case begins with.
 fn read_head(head: &[u16; 7]) -> Case {
     Case {
         call: head[0],
@@ -224,6 +230,7 @@ fn read_head(head: &[u16; 7]) -> Case {
     }
 }
 
+// At most a thousand cases.
 fn main() {
     let mut i: usize = 0;
     while i < 1000 {

@@ -28,7 +28,8 @@ use Rattle.curve.proofs.Tests.{test-false, below-same, alike-small, zer
 
 -- with the rows of weights at a point and a symbol, the pairings are the values of the triple's conditions
 module _ (q k w l : ℕ) (c : List ℕ) where
-  pub below-met : (z : Triple ℕ) (xs ys : List ℕ) → w ≤ 256 → l < 256 → z .times ≤ 4 → Weights q (z .point) (z .times) w xs → Weights q (z .symbol) (z .times) (l + 1) ys →
+  pub below-met : (z : Triple ℕ) (xs ys : List ℕ) → w ≤ 256 → l < 256 → z .times ≤ 4 → Weights q (z .point) (z .times) w xs →
+      Weights q (z .symbol) (z .times) (l + 1) ys →
       zero-below q k w l (z .times) xs ys c ≡ met q k w l c z
   unfolding zero-below zero-with met condition
   below-met z xs ys u v f wx wy =
@@ -57,7 +58,8 @@ module _ (q k w l : ℕ) (c : List ℕ) where
     value-below z = total-below (l + 1) _
 
     module _ (s : T (weighted (ops q) k w l c)) where
-      hasse-test : (z : Condition ℕ) → alike q (hasse (ops q) w l c (z .point) (z .symbol) (z .a) (z .b)) 0 ≡ eqb (value (ops q) (space k w l) z (coefficient (ops q) w c)) 0
+      hasse-test : (z : Condition ℕ) →
+          alike q (hasse (ops q) w l c (z .point) (z .symbol) (z .a) (z .b)) 0 ≡ eqb (value (ops q) (space k w l) z (coefficient (ops q) w c)) 0
       hasse-test z =
           elt-hom q m h .same _ _
           ∙ ap (λ x. F .same x (F .nil)) (hasse-hom (ops q) F e (elt-hom q m h) w l c _ _ _ _
@@ -75,7 +77,8 @@ module _ (q k w l : ℕ) (c : List ℕ) where
 module _ (q k w l : ℕ) (zs : List (Triple ℕ)) (c : List ℕ) where
   passes-three : T (passes (ops q) k w l zs c) → T (not (zeros (ops q) c)) × T (weighted (ops q) k w l c)
   unfolding passes
-  passes-three t = both (not (zeros (ops q) c)) (weighted (ops q) k w l c) (both (not (zeros (ops q) c) && weighted (ops q) k w l c) (all (through (ops q) w l c) zs) t .0)
+  passes-three t = both (not (zeros (ops q) c)) (weighted (ops q) k w l c)
+      (both (not (zeros (ops q) c) && weighted (ops q) k w l c) (all (through (ops q) w l c) zs) t .0)
 
   pub zero-fails : T (under q c) → T (blank c) → false ≡ passes (ops q) k w l zs c
   zero-fails u b = test-false _ (λ t. T-not (zeros (ops q) c) (passes-three t .0) (subst T (sym (zeros-blank q c u)) b))

@@ -41,12 +41,14 @@ module _ (q k w : ℕ) (x y c : List ℕ) where
   pairing-none = refl
 
   dot-share : (n at : ℕ) → n ≤ length x → at + n ≤ length c →
-      total (ops q) (length (midOf 0 (n - 0) x)) (products q (midOf 0 (n - 0) x) (midOf at (at + n - at) c)) ≡ total (ops q) n (λ i. times q (getD x i 0) (getD c (at + i) 0))
+      total (ops q) (length (midOf 0 (n - 0) x)) (products q (midOf 0 (n - 0) x) (midOf at (at + n - at) c))
+      ≡ total (ops q) n (λ i. times q (getD x i 0) (getD c (at + i) 0))
   dot-share n at h g =
       rw (sub-zero, add-sub-cancel-left) (ap (λ m. total (ops q) m (products q (midOf 0 n x) (midOf at n c))) (len-mid 0 n x (omega arith))
       ∙ total-same (ops q) n _ _ (λ i l. ap₂ (times q) (at-mid 0 n x (omega arith) i l ∙ ap (λ (j : ℕ). getD x j 0) (zero-add i)) (at-mid at n c g i l)))
 
-  pub pairing-more : (t : ℕ) {at off sum part : ℕ} → at ≡ t * w → off ≡ t * (k - 1) → w - off ≤ length x → at + (w - off) ≤ length c → sum ≡ total (ops q) t (share q k w x y c) →
+  pub pairing-more : (t : ℕ) {at off sum part : ℕ} → at ≡ t * w → off ≡ t * (k - 1) → w - off ≤ length x → at + (w - off) ≤ length c →
+      sum ≡ total (ops q) t (share q k w x y c) →
       part ≡ total (ops q) (length (midOf 0 (w - off - 0) x)) (products q (midOf 0 (w - off - 0) x) (midOf at (at + (w - off) - at) c)) →
       plus q sum (times q (getD y t 0) part) ≡ total (ops q) (t + 1) (share q k w x y c)
   unfolding total

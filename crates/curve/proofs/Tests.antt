@@ -119,10 +119,12 @@ module _ (k w t at off : ℕ) (c : List ℕ) (ea : at ≡ t * w) (eo : off ≡ t
   pub behind-clear : T (blank behind) → (i : ℕ) → i < w → w ≤ i + t * (k - 1) → getD c (t * w + i) 0 ≡ 0
   behind-clear b i l h =
       let e : t * w + i ≡ at + (w - off) + (i - (w - off)) = omega arith in
-      ap (λ (j : ℕ). getD c j 0) e ∙ sym (at-mid (at + (w - off)) (at + w - (at + (w - off))) c (omega arith) (i - (w - off)) (omega arith)) ∙ blank-at behind b (i - (w - off))
+      ap (λ (j : ℕ). getD c j 0) e ∙ sym (at-mid (at + (w - off)) (at + w - (at + (w - off))) c (omega arith) (i - (w - off)) (omega arith))
+      ∙ blank-at behind b (i - (w - off))
 
   pub clear-behind : ((i : ℕ) → i < w → w ≤ i + t * (k - 1) → getD c (t * w + i) 0 ≡ 0) → T (blank behind)
   clear-behind h = blank-of behind (λ j l.
       let n : length behind ≡ at + w - (at + (w - off)) = len-mid (at + (w - off)) (at + w - (at + (w - off))) c (omega arith) in
       let e : at + (w - off) + j ≡ t * w + (w - off + j) = omega arith in
-      at-mid (at + (w - off)) (at + w - (at + (w - off))) c (omega arith) j (omega arith) ∙ ap (λ (i : ℕ). getD c i 0) e ∙ h (w - off + j) (omega arith) (omega arith))
+      at-mid (at + (w - off)) (at + w - (at + (w - off))) c (omega arith) j (omega arith) ∙ ap (λ (i : ℕ). getD c i 0) e
+      ∙ h (w - off + j) (omega arith) (omega arith))

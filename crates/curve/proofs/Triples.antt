@@ -23,7 +23,8 @@ abbrev pub triple-at : List ℕ → List ℕ → List ℕ → ℕ → Triple ℕ
 triple-at points word times j = record { point = getD points j 0; symbol = getD word j 0; times = getD times j 0 }
 
 module _ (test : Triple ℕ → Bool) where
-  pub tripled-of : (points word times : List ℕ) → ((j : ℕ) → j < length points → T (test (triple-at points word times j))) → T (all test (tripled points word times))
+  pub tripled-of : (points word times : List ℕ) → ((j : ℕ) → j < length points → T (test (triple-at points word times j))) →
+      T (all test (tripled points word times))
   unfolding tripled all
   tripled-of [] word times h = tt
   tripled-of (α ∷ points) [] times h = tt

@@ -25,13 +25,15 @@ module _ (q α : ℕ) where
 
   module _ (m : T (modulus q)) (i : ℕ) where
     -- the next weight, from the one before it and the one beside that in the row before
-    pub weight-more : {n : ℕ} {d e : List ℕ} (a low : ℕ) → Weights q α a n d → Changed (weight (ops q) α a) (a * 256) (i + 1) d e → i < n → n ≤ 256 → Lower a i e low →
+    pub weight-more : {n : ℕ} {d e : List ℕ} (a low : ℕ) → Weights q α a n d → Changed (weight (ops q) α a) (a * 256) (i + 1) d e → i < n → n ≤ 256 →
+        Lower a i e low →
         plus q low (times q α (weight (ops q) α a i)) ≡ weight (ops q) α a (i + 1)
     unfolding weight plus
     weight-more {n} {d} {e} zero low w h l u r = rw (r .none refl, add-one, zero-add) (mod-eq-of-lt (times-below q m α _))
     weight-more {n} {d} {e} (suc a) low w h l u r =
         let at : (suc a - 1) * 256 + i ≡ a * 256 + i = omega arith in
-        let is : low ≡ weight (ops q) α a i = r .some (omega arith) ∙ ap (λ (k : ℕ). getD e k 0) at ∙ h .low (a * 256 + i) (omega arith) ∙ w .row a (omega arith) i l in
+        let is : low ≡ weight (ops q) α a i = r .some (omega arith) ∙ ap (λ (k : ℕ). getD e k 0) at ∙ h .low (a * 256 + i) (omega arith)
+        ∙ w .row a (omega arith) i l in
         rw (is, add-one) (ap (λ x. x % q) (add-comm _ _))
 
   pub weights-more : {a n : ℕ} {d e : List ℕ} → n ≤ 256 → Weights q α a n d → Changed (weight (ops q) α a) (a * 256) n d e → Weights q α (a + 1) n e

@@ -1,3 +1,4 @@
+-- The definitions of the crate, each file after those that it rests on.
 pub mod Weights
 pub mod Value
 pub mod Triples

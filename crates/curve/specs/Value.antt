@@ -9,5 +9,6 @@ use Rattle.rules.specs.Curve.{total}
 abbrev pub share : ℕ → ℕ → ℕ → List ℕ → List ℕ → List ℕ → ℕ → ℕ
 share q k w x y c t = times q (getD y t 0) (total (ops q) (w - t * (k - 1)) (λ i. times q (getD x i 0) (getD c (t * w + i) 0)))
 
+-- the rows' shares added up
 unfoldable pub pairing : ℕ → ℕ → ℕ → ℕ → List ℕ → List ℕ → List ℕ → ℕ
 pairing q k w l x y c = total (ops q) (l + 1) (share q k w x y c)

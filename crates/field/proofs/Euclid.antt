@@ -73,7 +73,8 @@ module _ (q a : ℕ) (m : T (modulus q)) (u : a < q) where
     falls = u;
     some = l;
     below = modulus-two q m;
-    coprime = λ d s e f. ⊎-elim (λ w. sym w) (λ w. absurd (modulus-says q m .none d w (omega (arith, le-of-dvd l (dvd-of-mod-eq-zero d f))) e)) (eq-or-lt-of-le s);
+    coprime = λ d s e f. ⊎-elim (λ w. sym w) (λ w. absurd (modulus-says q m .none d w (omega (arith, le-of-dvd l (dvd-of-mod-eq-zero d f))) e))
+        (eq-or-lt-of-le s);
   }
 
   pub found : {r : ℕ} → 0 < a → Factor q q a 0 1 r → r ≡ inverse (ops q) a

@@ -53,7 +53,8 @@ pub fn mixed(q: u16, d: u16, c: u16, s: u16) -> u16
     reduced(d as u32 + wide(c, s), q)
 }
 
-// One number takes s0 to r0 and s1 to r1. It takes s0 − (r0 / r1)·s1 to the remainder of r0 by r1; the last remainder is 1, and its factor the answer.
+// Some number times s0 is r0 and times s1 is r1, modulo q. Times s0 − (r0 / r1)·s1 it is the remainder of r0 by r1.
+// The last remainder is 1, and its factor is the answer.
 fn euclid(q: u16, r0: u16, r1: u16, s0: u16, s1: u16) -> u16
     requires { ⌜ Chain q r0 r1 s0 s1 ⌝ }
     ensures { λ r. ⌜ Factor q r0 r1 s0 s1 r ⌝ }

@@ -32,7 +32,8 @@ module _ {q k w l : ℕ} (s : Shaped q k w l) (h : 1 < q) (work : List ℕ) (B :
 
   pub kept-start : (leads : List ℕ) → ((j : ℕ) → j ≤ l → getD leads j 0 ≡ 0) → Kept q h k w l [] leads work
   kept-start leads z = record {
-    basis = basis-same F L S (start F L S (view q h k w l work) (λ j u. omega (arith, row-inside k w l j (s .fits) u .0)) (λ j v. ap (elt q h) (B .one j (omega (arith, v .column))))
+    basis = basis-same F L S
+        (start F L S (view q h k w l work) (λ j u. omega (arith, row-inside k w l j (s .fits) u .0)) (λ j v. ap (elt q h) (B .one j (omega (arith, v .column))))
         (λ j i t v x n. ap (elt q h) (none-at j t i (v .column) (x .column) (omega (arith, x .inside)) n))) z (λ j v i t x. refl);
     least = λ Q a j M v. omega (arith, z j (v .within .column));
     small = λ j t i u v b. by-cases (ℕ-discrete i 0)

@@ -73,7 +73,8 @@ module _ {q k w l : ℕ} (s : Shaped q k w l) (zs : List (Triple ℕ)) (few : le
     at t i u v = at-mid (p * slot w l) (slot w l) work fits (place w t i) (place-in w l u v)
 
     small : (m : ℕ) → m < length Q → getD Q m 0 < q
-    small m u = each-place w (l + 1) (λ m. getD Q m 0 < q) (λ t i a b. rw (at t i a b) (K two .small p t i (first .alive .column) (omega arith) b)) m (omega (arith, long))
+    small m u = each-place w (l + 1) (λ m. getD Q m 0 < q) (λ t i a b. rw (at t i a b) (K two .small p t i (first .alive .column) (omega arith) b)) m
+        (omega (arith, long))
 
     module _ (h : 1 < q) where
       cell : (t i : ℕ) → t < l + 1 → i < w → coefficient (field q h) w (map (elt q h) Q) i t ≡ elt q h (getD work (p * slot w l + place w t i) 0)

@@ -13,7 +13,8 @@ use Rattle.curve.specs.Weights.{Weights}
 use Rattle.finder.specs.Kept.{Row, Kept, Met, Grown, triple}
 
 -- a row of weights, as it is lent
-pub row-part : {q α m n : ℕ} {ws : List ℕ} (a : ℕ) → Weights q α m n ws → a < m → a < 4 → n ≤ 256 → Row q α a n (take (a * 256 + n - a * 256) (drop (a * 256) ws))
+pub row-part : {q α m n : ℕ} {ws : List ℕ} (a : ℕ) → Weights q α m n ws → a < m → a < 4 → n ≤ 256 →
+    Row q α a n (take (a * 256 + n - a * 256) (drop (a * 256) ws))
 row-part {n = n} {ws = ws} a W u v b i c = at-mid (a * 256) (a * 256 + n - a * 256) ws (omega (arith, W .len)) i (omega arith) ∙ W .row a u i c
 
 -- the weights of fewer orders
@@ -25,9 +26,11 @@ module _ (q k w l : ℕ) where
   grown-none more leads work e = record { keeps = λ h cs K. subst (λ ds. Kept q h k w l ds leads work) (sym (append-nil cs) ∙ ap (_++_ cs) (sym (e h))) K }
 
   pub grown-then : {A B : 1 < q → List (Condition (Fin q))} {leads leads′ leads″ work work′ work″ : List ℕ} (more : 1 < q → List (Condition (Fin q))) →
-      Grown q k w l A leads leads′ work work′ → Grown q k w l B leads′ leads″ work′ work″ → ((h : 1 < q) → more h ≡ A h ++ B h) → Grown q k w l more leads leads″ work work″
+      Grown q k w l A leads leads′ work work′ → Grown q k w l B leads′ leads″ work′ work″ → ((h : 1 < q) → more h ≡ A h ++ B h) →
+      Grown q k w l more leads leads″ work work″
   grown-then {A} {B} {leads″ = leads″} {work″ = work″} more f g e = record {
-    keeps = λ h cs K. subst (λ ds. Kept q h k w l ds leads″ work″) (append-assoc cs (A h) (B h) ∙ ap (_++_ cs) (sym (e h))) (g .keeps h (cs ++ A h) (f .keeps h cs K));
+    keeps = λ h cs K. subst (λ ds. Kept q h k w l ds leads″ work″) (append-assoc cs (A h) (B h) ∙ ap (_++_ cs) (sym (e h)))
+        (g .keeps h (cs ++ A h) (f .keeps h cs K));
   }
 
   -- the conditions of one order b in y
@@ -36,8 +39,10 @@ module _ (q k w l : ℕ) where
     unfolding below from
     along-none leads work = grown-none (λ h. map (condition (triple q h α r m) b) (below 0)) leads work (λ h. refl)
 
-    pub along-more : (a : ℕ) {x y leads leads′ leads″ work work′ work″ : List ℕ} → Grown q k w l (λ h. map (condition (triple q h α r m) b) (below a)) leads leads′ work work′ →
-        Met q k w l α x y leads′ leads″ work′ work″ → Row q α a w x → Row q r b (l + 1) y → Grown q k w l (λ h. map (condition (triple q h α r m) b) (below (a + 1))) leads leads″ work work″
+    pub along-more : (a : ℕ) {x y leads leads′ leads″ work work′ work″ : List ℕ} →
+        Grown q k w l (λ h. map (condition (triple q h α r m) b) (below a)) leads leads′ work work′ →
+        Met q k w l α x y leads′ leads″ work′ work″ → Row q α a w x → Row q r b (l + 1) y →
+        Grown q k w l (λ h. map (condition (triple q h α r m) b) (below (a + 1))) leads leads″ work work″
     unfolding condition
     along-more a {leads″ = leads″} {work″ = work″} G M X Y = record {
       keeps = λ h cs K. rw add-one (subst (λ ds. Kept q h k w l ds leads″ work″) (sym (map-more cs (condition (triple q h α r m) b) a))
@@ -50,10 +55,13 @@ module _ (q k w l : ℕ) where
     unfolding below from flatMap
     orders-none leads work = grown-none (λ h. flatMap (conditions-along (triple q h α r m)) (below 0)) leads work (λ h. refl)
 
-    pub orders-more : (b : ℕ) {leads leads′ leads″ work work′ work″ : List ℕ} → Grown q k w l (λ h. flatMap (conditions-along (triple q h α r m)) (below b)) leads leads′ work work′ →
-        Grown q k w l (λ h. map (condition (triple q h α r m) b) (below (m - b))) leads′ leads″ work′ work″ → Grown q k w l (λ h. flatMap (conditions-along (triple q h α r m)) (below (b + 1))) leads leads″ work work″
+    pub orders-more : (b : ℕ) {leads leads′ leads″ work work′ work″ : List ℕ} →
+        Grown q k w l (λ h. flatMap (conditions-along (triple q h α r m)) (below b)) leads leads′ work work′ →
+        Grown q k w l (λ h. map (condition (triple q h α r m) b) (below (m - b))) leads′ leads″ work′ work″ →
+        Grown q k w l (λ h. flatMap (conditions-along (triple q h α r m)) (below (b + 1))) leads leads″ work work″
     unfolding conditions-along
-    orders-more b G N = grown-then (λ h. flatMap (conditions-along (triple q h α r m)) (below (b + 1))) G N (λ h. rw add-one (flat-more [] (conditions-along (triple q h α r m)) b))
+    orders-more b G N = grown-then (λ h. flatMap (conditions-along (triple q h α r m)) (below (b + 1))) G N
+        (λ h. rw add-one (flat-more [] (conditions-along (triple q h α r m)) b))
 
     pub orders-all : {leads leads′ work work′ : List ℕ} → Grown q k w l (λ h. flatMap (conditions-along (triple q h α r m)) (below m)) leads leads′ work work′ →
         Grown q k w l (λ h. conditions-at (triple q h α r m)) leads leads′ work work′

@@ -82,7 +82,9 @@ module _ {q k w l : ℕ} (s : Shaped q k w l) (h : 1 < q) where
     value-at work j =
         ap e (pairing-value q k w l x y (curve-at w l work j) (record { point = α; symbol = r; a = a; b = b }) X (λ t u. Y t (omega arith)))
         ∙ value-hom (ops q) F e H S _ _
-        ∙ value-ext F L S c _ _ (λ i t v. ap e (getD-take (slot w l) _ (place w t i) 0 (place-in w l (omega (arith, v .column)) (omega (arith, v .inside))) ∙ getD-drop (j * slot w l) work (place w t i) 0))
+        ∙ value-ext F L S c _ _
+        (λ i t v. ap e (getD-take (slot w l) _ (place w t i) 0 (place-in w l (omega (arith, v .column)) (omega (arith, v .inside)))
+        ∙ getD-drop (j * slot w l) work (place w t i) 0))
 
     module _ {cs : List (Condition (Fin q))} {leads work : List ℕ} (R : Ready cs c) (K : Kept q h k w l cs leads work) (values : List ℕ)
         (G : (j : ℕ) → In S (getD leads j 0) j → getD values j 0 ≡ pairing q k w l x y (curve-at w l work j)) where
@@ -99,8 +101,10 @@ module _ {q k w l : ℕ} (s : Shaped q k w l) (h : 1 < q) where
       }
 
       -- p is the pivot, the others are swept, and the pivot is raised
-      module _ {p over : ℕ} {swept work′ : List ℕ} (P : First k w l leads values p) (fits : p < length leads) (room : p < length values) (o : over ≡ inverse (ops q) (getD values p 0))
-          (W : Swept q k w l p over (set values p 0) (l + 1) work swept) (U : Treated (raised-at q (minus q 0 α) w swept (p * slot w l)) (p * slot w l) k w (l + 1) swept work′) where
+      module _ {p over : ℕ} {swept work′ : List ℕ} (P : First k w l leads values p) (fits : p < length leads) (room : p < length values)
+          (o : over ≡ inverse (ops q) (getD values p 0))
+          (W : Swept q k w l p over (set values p 0) (l + 1) work swept)
+          (U : Treated (raised-at q (minus q 0 α) w swept (p * slot w l)) (p * slot w l) k w (l + 1) swept work′) where
         column : p < l + 1
         column = omega (arith, P .alive .column)
 
@@ -123,7 +127,8 @@ module _ {q k w l : ℕ} (s : Shaped q k w l) (h : 1 < q) where
             last zero = refl
             last (suc i) = here i
 
-        reduce-at : (j : ℕ) → j < l + 1 → ¬ (j ≡ p) → (i t : ℕ) → In S i t → view q h k w l work′ j i t ≡ mix F (view q h k w l work j) (e (share q over (getD values j 0))) (view q h k w l work p) i t
+        reduce-at : (j : ℕ) → j < l + 1 → ¬ (j ≡ p) → (i t : ℕ) → In S i t →
+            view q h k w l work′ j i t ≡ mix F (view q h k w l work j) (e (share q over (getD values j 0))) (view q h k w l work p) i t
         reduce-at j u n i t v =
             let A = view q h k w l work j i t in
             let B = view q h k w l work p i t in
@@ -144,7 +149,8 @@ module _ {q k w l : ℕ} (s : Shaped q k w l) (h : 1 < q) where
           ratio = λ j. e (share q over (getD values j 0));
           clears = λ j v n. ap₂ (λ a b. F .add a (F .mul (e (share q over (getD values j 0))) b)) (sym (value-is j v)) (sym (value-is p (P .alive)))
               ∙ ap (λ a. F .add (e (getD values j 0)) (F .mul a (e (getD values p 0)))) (elt-share (getD values j 0) over)
-              ∙ clears F L (e (getD values j 0)) (e (getD values p 0)) (e over) (ap (λ (x : ℕ). F .mul (e (getD values p 0)) (e x)) o ∙ elt-inverse _ (P .some) (rw (G p (P .alive)) (pairing-below s x y _)));
+              ∙ clears F L (e (getD values j 0)) (e (getD values p 0)) (e over)
+              (ap (λ (x : ℕ). F .mul (e (getD values p 0)) (e x)) o ∙ elt-inverse _ (P .some) (rw (G p (P .alive)) (pairing-below s x y _)));
           reduce = λ j v n i t u. reduce-at j (omega (arith, v .column)) n i t u;
         }
 
@@ -154,7 +160,8 @@ module _ {q k w l : ℕ} (s : Shaped q k w l) (h : 1 < q) where
             (λ z. rw (z, turn-raises q k w l p over (minus q 0 α) gone W U t i (omega arith) g) (plus-below q (s .field) _ _))
             (λ n. by-cases (ℕ-discrete (getD values j 0) 0)
             (λ z. rw (turn-stays q k w l p over (minus q 0 α) gone W U j t i n (other j n ∙ z) (omega arith) b) (K .small j t i u v b))
-            (λ z. rw (turn-loses q k w l p over (minus q 0 α) gone W U j t i (omega arith) n (λ y. z (sym (other j n) ∙ y)) (omega arith) g) (plus-below q (s .field) _ _))))
+            (λ z. rw (turn-loses q k w l p over (minus q 0 α) gone W U j t i (omega arith) n (λ y. z (sym (other j n) ∙ y)) (omega arith) g)
+            (plus-below q (s .field) _ _))))
             (λ g. rw (turn-outside q k w l p over (minus q 0 α) gone W U j t i (omega arith) b (omega arith)) (K .small j t i u v b))
 
         pub kept-step : Kept q h k w l (cs ++ (c ∷ [])) (set leads p (getD leads p 0 + 1)) work′
@@ -173,8 +180,10 @@ module _ {q k w l : ℕ} (s : Shaped q k w l) (α : ℕ) (x y leads work values 
   pub met-quiet : ((j : ℕ) → In (space k w l) (getD leads j 0) j → getD values j 0 ≡ 0) → Met q k w l α x y leads leads work work
   met-quiet z = record { fit = fit; keeps = λ r a b X Y h cs R K. kept-quiet s h α r a b x y X Y R K values given z }
 
-  pub met-step : {p over : ℕ} {swept work′ : List ℕ} → First k w l leads values p → p < length leads → p < length values → over ≡ inverse (ops q) (getD values p 0) →
-      Swept q k w l p over (set values p 0) (l + 1) work swept → Treated (raised-at q (minus q 0 α) w swept (p * slot w l)) (p * slot w l) k w (l + 1) swept work′ →
+  pub met-step : {p over : ℕ} {swept work′ : List ℕ} → First k w l leads values p → p < length leads → p < length values →
+      over ≡ inverse (ops q) (getD values p 0) →
+      Swept q k w l p over (set values p 0) (l + 1) work swept →
+      Treated (raised-at q (minus q 0 α) w swept (p * slot w l)) (p * slot w l) k w (l + 1) swept work′ →
       Met q k w l α x y leads (set leads p (getD leads p 0 + 1)) work work′
   met-step {p} P u v o W U = record {
     fit = λ j b. by-cases (ℕ-discrete j p)

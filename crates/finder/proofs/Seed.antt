@@ -9,8 +9,9 @@ use borrow.Author.Count.{below-more}
 use borrow.Rule.Slice.PartMut.{midOf, putMid}
 use Rattle.buffers.specs.Change.{Changed}
 use Rattle.buffers.proofs.Part.{len-mid, lift}
+use Rattle.buffers.proofs.Rows.{row-fits}
 use Rattle.finder.specs.Slot.{slot, place, Started}
-use Rattle.finder.proofs.Sweep.{slot-eq}
+use Rattle.finder.proofs.Sweep.{slot-eq, place-in}
 
 -- e is d but for the coefficient of y^j in each of the first n curves, which is one
 pub record Seeded (w l n : ℕ) (d e : List ℕ) : Type 0 where
@@ -22,7 +23,12 @@ module _ (w l : ℕ) (d : List ℕ) where
   pub seeded-none : Seeded w l 0 d d
   seeded-none = record { len = refl; one = λ j u. absurd (omega arith); keep = λ m h. refl }
 
-  pub seeded-more : {n : ℕ} {e : List ℕ} (at : ℕ) → 0 < w → n < l + 1 → Seeded w l n d e → at ≡ n * slot w l + place w n 0 → at < length d → Seeded w l (n + 1) d (set e at 1)
+  -- the place of the next one is inside the buffer
+  pub seed-inside : {n : ℕ} {e : List ℕ} → 0 < w → n < l + 1 → (l + 1) * slot w l ≤ length d → Seeded w l n d e → n * slot w l + place w n 0 < length e
+  seed-inside {n} s u fits S = omega (arith, S .len, place-in w l {t = n} {i = 0} u s, row-fits {t = n} {n = l + 1} (slot w l) u)
+
+  pub seeded-more : {n : ℕ} {e : List ℕ} (at : ℕ) → 0 < w → n < l + 1 → Seeded w l n d e → at ≡ n * slot w l + place w n 0 → at < length d →
+      Seeded w l (n + 1) d (set e at 1)
   seeded-more {n} {e} at s u S q b = record {
     len = length-set e at 1 ∙ S .len;
     one = below-more (λ j. getD (set e at 1) (j * slot w l + place w j 0) 0 ≡ 1) n
@@ -35,5 +41,6 @@ module _ (w l : ℕ) (d : List ℕ) where
   seeded-started S h = record { one = S .one; none = λ m u v. S .keep m v ∙ h m u }
 
 -- what is cleared of the whole
-pub cleared : (e : ℕ) (d ys : List ℕ) → e ≤ length d → Changed (λ k. 0) 0 (length (midOf 0 (e - 0) d)) (midOf 0 (e - 0) d) ys → Changed (λ k. 0) 0 e d (putMid 0 (e - 0) d ys)
+pub cleared : (e : ℕ) (d ys : List ℕ) → e ≤ length d → Changed (λ k. 0) 0 (length (midOf 0 (e - 0) d)) (midOf 0 (e - 0) d) ys →
+    Changed (λ k. 0) 0 e d (putMid 0 (e - 0) d ys)
 cleared e d ys l C = lift (λ k. 0) 0 0 (e - 0) e (omega arith) C (len-mid 0 (e - 0) d (omega arith) ∙ omega arith) (omega arith) (omega arith) (λ j u. refl)

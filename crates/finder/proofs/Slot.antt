@@ -34,12 +34,14 @@ module _ {f : ℕ → ℕ → ℕ} {at k w n : ℕ} {d e : List ℕ} (h : Treate
       ⊎-elim (λ x. omega arith) (λ x. omega arith) p)
 
   -- one more row
-  pub treated-more : {g : ℕ → ℕ} {a m : ℕ} {e′ : List ℕ} → Changed g a m e e′ → a ≡ at + n * w → m ≡ w - n * (k - 1) → ((i : ℕ) → i + n * (k - 1) < w → g i ≡ f n i) →
+  pub treated-more : {g : ℕ → ℕ} {a m : ℕ} {e′ : List ℕ} → Changed g a m e e′ → a ≡ at + n * w → m ≡ w - n * (k - 1) →
+      ((i : ℕ) → i + n * (k - 1) < w → g i ≡ f n i) →
       Treated f at k w (n + 1) d e′
   treated-more {g} {a} {m} {e′} C start count same = record {
     len = C .len ∙ h .len;
     new = λ t i l v. by-cases (ℕ-discrete t n)
-        (λ z. rw z (let x : at + place w n i ≡ a + i = omega arith in let v′ : i + n * (k - 1) < w = rw z at v in ap (λ (x : ℕ). getD e′ x 0) x ∙ C .new i (omega arith) ∙ same i v′))
+        (λ z. rw z (let x : at + place w n i ≡ a + i = omega arith in let v′ : i + n * (k - 1) < w = rw z at v in
+        ap (λ (x : ℕ). getD e′ x 0) x ∙ C .new i (omega arith) ∙ same i v′))
         (λ z. let y = digits-lt {q = t} {m = n} {r = i} {c = w} (omega arith) (omega arith) in C .low _ (omega arith) ∙ h .new t i (omega arith) v);
     keep = λ x u. aside x u ∙ h .keep x (λ t i l v. u t i (omega arith) v);
   }
@@ -51,18 +53,22 @@ module _ {f : ℕ → ℕ → ℕ} {at k w n : ℕ} {d e : List ℕ} (h : Treate
           (lt-or-ge x a)
 
 -- a row of the curve from `to` on, plus c times that from `from` on
-pub reduce-more : (q c k w l from to n : ℕ) {row off : ℕ} {d e e′ : List ℕ} → Apart from to (slot w l) → n ≤ l → Treated (mixed-at q c w d from to) to k w n d e →
-    Changed (added q c e (from + row) (to + row)) (to + row) (w - off) e e′ → row ≡ n * w → off ≡ n * (k - 1) → Treated (mixed-at q c w d from to) to k w (n + 1) d e′
+pub reduce-more : (q c k w l from to n : ℕ) {row off : ℕ} {d e e′ : List ℕ} → Apart from to (slot w l) → n ≤ l →
+    Treated (mixed-at q c w d from to) to k w n d e →
+    Changed (added q c e (from + row) (to + row)) (to + row) (w - off) e e′ → row ≡ n * w → off ≡ n * (k - 1) →
+    Treated (mixed-at q c w d from to) to k w (n + 1) d e′
 reduce-more q c k w l from to n {row} {off} {d} {e} p u T C r o = treated-more T C (omega arith) (omega arith) λ i v.
     let a : to + row + i ≡ to + place w n i = omega arith in
     let b : from + row + i ≡ from + place w n i = omega arith in
-    ap₂ (λ (x y : ℕ). plus q x (times q c y)) (ap (λ (x : ℕ). getD e x 0) a ∙ treated-next T i) (ap (λ (x : ℕ). getD e x 0) b ∙ treated-away T u p i (omega arith))
+    ap₂ (λ (x y : ℕ). plus q x (times q c y)) (ap (λ (x : ℕ). getD e x 0) a ∙ treated-next T i)
+    (ap (λ (x : ℕ). getD e x 0) b ∙ treated-away T u p i (omega arith))
 
 -- a row of the curve from `at` on, times x + c
 pub raise-more : (q c k w at n : ℕ) {row off : ℕ} {d e e′ : List ℕ} → Treated (raised-at q c w d at) at k w n d e →
     Changed (shifted q c e row row) row (w - off) e e′ → row ≡ at + n * w → off ≡ n * (k - 1) → Treated (raised-at q c w d at) at k w (n + 1) d e′
 unfolding moved
-raise-more q c k w at n {row} {off} {d} {e} T C r o = treated-more T C (omega arith) (omega arith) λ i v. ap₂ (λ (x y : ℕ). plus q x (times q c y)) (last i) (here i)
+raise-more q c k w at n {row} {off} {d} {e} T C r o =
+    treated-more T C (omega arith) (omega arith) λ i v. ap₂ (λ (x y : ℕ). plus q x (times q c y)) (last i) (here i)
   where
     here : (i : ℕ) → getD e (row + i) 0 ≡ getD d (at + n * w + i) 0
     here i =

@@ -38,12 +38,14 @@ module _ (q k w l p over : ℕ) (values d : List ℕ) where
     }
 
     -- a curve that loses its share; the value of p is zero, so p has stayed
-    pub swept-more : (c : ℕ) {from to : ℕ} {e′ : List ℕ} → from ≡ p * slot w l → to ≡ n * slot w l → getD values p 0 ≡ 0 → ¬ (getD values n 0 ≡ 0) → c ≡ share q over (getD values n 0) →
+    pub swept-more : (c : ℕ) {from to : ℕ} {e′ : List ℕ} → from ≡ p * slot w l → to ≡ n * slot w l → getD values p 0 ≡ 0 → ¬ (getD values n 0 ≡ 0) →
+        c ≡ share q over (getD values n 0) →
         Treated (mixed-at q c w e from to) to k w (l + 1) e e′ → Swept q k w l p over values (n + 1) d e′
     swept-more c {from} {to} {e′} f g z v s T₀ = record {
       len = T .len ∙ S .len;
       new = λ j t i u x a b. by-cases (ℕ-discrete j n)
-          (λ y. rw y (T .new t i a b ∙ ap₂ (λ (g h : ℕ). plus q g (times q c h)) (own t i a b) (lent t i a b) ∙ ap (λ (c : ℕ). mixed-at q c w d (p * slot w l) (n * slot w l) t i) s))
+          (λ y. rw y (T .new t i a b ∙ ap₂ (λ (g h : ℕ). plus q g (times q c h)) (own t i a b) (lent t i a b)
+          ∙ ap (λ (c : ℕ). mixed-at q c w d (p * slot w l) (n * slot w l) t i) s))
           (λ y. T .keep _ (λ t′ i′ a′ b′ r. y (slot-eq w l a (omega arith) a′ (omega arith) r)) ∙ S .new j t i (omega arith) x a b);
       keep = λ m h. T .keep m (λ t i a b. h n t i (omega arith) v a b) ∙ S .keep m (λ j t i u. h j t i (omega arith));
     }

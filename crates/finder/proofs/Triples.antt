@@ -38,20 +38,25 @@ module _ (q k w l : ℕ) (points word times : List ℕ) where
   triples-none leads work = grown-none q k w l (λ h. conditions (take 0 (map (move (elt q h)) (tripled points word times)))) leads work (λ h. refl)
 
   module _ (j : ℕ) (a : length word ≡ length points) (b : length times ≡ length points) where
-    pub triples-more : {leads leads′ leads″ work work′ work″ : List ℕ} → j < length points → Grown q k w l (λ h. conditions (take j (map (move (elt q h)) (tripled points word times)))) leads leads′ work work′ →
+    pub triples-more : {leads leads′ leads″ work work′ work″ : List ℕ} → j < length points →
+        Grown q k w l (λ h. conditions (take j (map (move (elt q h)) (tripled points word times)))) leads leads′ work work′ →
         Grown q k w l (λ h. conditions-at (triple q h (getD points j 0) (getD word j 0) (getD times j 0))) leads′ leads″ work′ work″ →
         Grown q k w l (λ h. conditions (take (j + 1) (map (move (elt q h)) (tripled points word times)))) leads leads″ work work″
     triples-more u G N = grown-then q k w l (λ h. conditions (take (j + 1) (map (move (elt q h)) (tripled points word times)))) G N (λ h. rw add-one
-        (conditions-more (map (move (elt q h)) (tripled points word times)) j (move (elt q h) none) (simp length-map (omega (arith, tripled-length points word times a b)))
-        ∙ ap (λ z. conditions (take j (map (move (elt q h)) (tripled points word times))) ++ conditions-at z) (List·getD-map (move (elt q h)) (tripled points word times) j none
+        (conditions-more (map (move (elt q h)) (tripled points word times)) j (move (elt q h) none)
+        (simp length-map (omega (arith, tripled-length points word times a b)))
+        ∙ ap (λ z. conditions (take j (map (move (elt q h)) (tripled points word times))) ++ conditions-at z)
+        (List·getD-map (move (elt q h)) (tripled points word times) j none
         ∙ ap (move (elt q h)) (tripled-get points word times j none a b u))))
       where
         none : Triple ℕ
         none = record { point = 0; symbol = 0; times = 0 }
 
-    pub triples-all : {leads leads′ work work′ : List ℕ} → length points ≤ j → Grown q k w l (λ h. conditions (take j (map (move (elt q h)) (tripled points word times)))) leads leads′ work work′ →
+    pub triples-all : {leads leads′ work work′ : List ℕ} → length points ≤ j →
+        Grown q k w l (λ h. conditions (take j (map (move (elt q h)) (tripled points word times)))) leads leads′ work work′ →
         Grown q k w l (λ h. conditions (map (move (elt q h)) (tripled points word times))) leads leads′ work work′
     triples-all {leads′ = leads′} {work′ = work′} u G = record {
       keeps = λ h cs K. subst (λ zs. Kept q h k w l (cs ++ conditions zs) leads′ work′)
-          (take-all j (map (move (elt q h)) (tripled points word times)) (simp length-map (omega (arith, tripled-length points word times a b)))) (G .keeps h cs K);
+          (take-all j (map (move (elt q h)) (tripled points word times)) (simp length-map (omega (arith, tripled-length points word times a b))))
+          (G .keeps h cs K);
     }

@@ -31,7 +31,8 @@ module _ (q k w l p over c : ℕ) {values d e f : List ℕ} (z : getD values p 0
   away : (j t i : ℕ) → ¬ (j ≡ p) → t < l + 1 → i < w → getD f (j * slot w l + place w t i) 0 ≡ getD e (j * slot w l + place w t i) 0
   away j t i n u v = R .keep _ (λ t′ i′ a b r. n (slot-eq w l u v a (omega arith) r))
 
-  pub turn-stays : (j t i : ℕ) → ¬ (j ≡ p) → getD values j 0 ≡ 0 → t < l + 1 → i < w → getD f (j * slot w l + place w t i) 0 ≡ getD d (j * slot w l + place w t i) 0
+  pub turn-stays : (j t i : ℕ) → ¬ (j ≡ p) → getD values j 0 ≡ 0 → t < l + 1 → i < w →
+      getD f (j * slot w l + place w t i) 0 ≡ getD d (j * slot w l + place w t i) 0
   turn-stays j t i n x u v = away j t i n u v ∙ W .keep _ (λ j′ t′ i′ g y a b r. let s : j ≡ j′ = slot-eq w l u v a (omega arith) r in y (rw (← s) x))
 
   pub turn-loses : (j t i : ℕ) → j < l + 1 → ¬ (j ≡ p) → ¬ (getD values j 0 ≡ 0) → t < l + 1 → i + t * (k - 1) < w →

@@ -23,7 +23,8 @@ Fit k w l leads = (j : ℕ) → j ≤ l → getD leads j 0 + j * (k - 1) ≤ w
 pub record First (k w l : ℕ) (leads values : List ℕ) (p : ℕ) : Type 0 where
   pub alive : In (space k w l) (getD leads p 0) p
   pub some : ¬ (getD values p 0 ≡ 0)
-  pub least : (j : ℕ) → In (space k w l) (getD leads j 0) j → ¬ (getD values j 0 ≡ 0) → rank (space k w l) (getD leads p 0) p ≤ rank (space k w l) (getD leads j 0) j
+  pub least : (j : ℕ) → In (space k w l) (getD leads j 0) j → ¬ (getD values j 0 ≡ 0) →
+      rank (space k w l) (getD leads p 0) p ≤ rank (space k w l) (getD leads j 0) j
 
 -- p is that curve, or ℓ + 1 where there is none
 abbrev pub Picked : ℕ → ℕ → ℕ → List ℕ → List ℕ → ℕ → Type 0
@@ -38,6 +39,7 @@ module _ (q : ℕ) (h : 1 < q) (k w l : ℕ) where
   abbrev pub view : List ℕ → ℕ → Curve (field q h)
   view work j i t = elt q h (getD work (j * slot w l + place w t i) 0)
 
+  -- after the conditions cs: a basis whose leading terms are least, of symbols, with zeros outside the space
   pub record Kept (cs : List (Condition (Fin q))) (leads work : List ℕ) : Type 0 where
     pub basis : Basis (field q h) (space k w l) cs (λ j. getD leads j 0) (view work)
     pub least : Least (field q h) (space k w l) cs (λ j. getD leads j 0)

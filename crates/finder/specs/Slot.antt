@@ -45,7 +45,8 @@ pub record Swept (q k w l p over : ℕ) (values : List ℕ) (n : ℕ) (d e : Lis
   pub len : length e ≡ length d
   pub new : (j t i : ℕ) → j < n → ¬ (getD values j 0 ≡ 0) → t < l + 1 → i + t * (k - 1) < w →
       getD e (j * slot w l + place w t i) 0 ≡ mixed-at q (share q over (getD values j 0)) w d (p * slot w l) (j * slot w l) t i
-  pub keep : (m : ℕ) → ((j t i : ℕ) → j < n → ¬ (getD values j 0 ≡ 0) → t < l + 1 → i + t * (k - 1) < w → ¬ (m ≡ j * slot w l + place w t i)) → getD e m 0 ≡ getD d m 0
+  pub keep : (m : ℕ) → ((j t i : ℕ) → j < n → ¬ (getD values j 0 ≡ 0) → t < l + 1 → i + t * (k - 1) < w → ¬ (m ≡ j * slot w l + place w t i)) →
+      getD e m 0 ≡ getD d m 0
 
 -- the numbers of curve j
 abbrev pub curve-at : ℕ → ℕ → List ℕ → ℕ → List ℕ

@@ -13,7 +13,7 @@ pub mod plan;
 pub mod slots;
 pub mod step;
 
-// Writes the least curve that passes for the triples. work is left as it comes.
+// Writes the least curve that passes for the triples. What work then holds is not said.
 pub fn find(
     q: u16,
     k: usize,
@@ -25,7 +25,8 @@ pub fn find(
     curve: &mut [u16],
     work: &mut [u16],
 )
-    requires { ⌜ Checkable q k w l (now points) (now word) (now times) (now curve) × ((l + 1) * slot w l ≤ length (now work)) × (length (conditions (tripled (now points) (now word) (now times))) < sum (λ t. w - t * (k - 1)) (below (l + 1))) ⌝ }
+    requires { ⌜ Checkable q k w l (now points) (now word) (now times) (now curve) × ((l + 1) * slot w l ≤ length (now work))
+        × (length (conditions (tripled (now points) (now word) (now times))) < sum (λ t. w - t * (k - 1)) (below (l + 1))) ⌝ }
     ensures { λ _. ⌜ Found q k w l (tripled (now (points .entry)) (now (word .entry)) (now (times .entry))) (now (curve .exit)) ⌝ }
 {
     let mut leads = [0usize; 25];

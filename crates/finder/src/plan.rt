@@ -29,7 +29,8 @@ fn along(
     leads: &mut [usize],
     work: &mut [u16],
 )
-    requires { ⌜ Shaped q k w l × (n ≤ 4) × (length (now xs) ≡ 1024) × (length (now y) ≡ l + 1) × (l < length (now leads)) × Fit k w l (now leads) × ((l + 1) * slot w l ≤ length (now work)) ⌝ }
+    requires { ⌜ Shaped q k w l × (n ≤ 4) × (length (now xs) ≡ 1024) × (length (now y) ≡ l + 1) × (l < length (now leads)) × Fit k w l (now leads)
+        × ((l + 1) * slot w l ≤ length (now work)) ⌝ }
     ensures { λ _. ⌜ Fit k w l (now (leads .exit)) × ((r b m : ℕ) → Weights q alpha n w (now (xs .entry)) → Row q r b (l + 1) (now (y .entry)) →
         Grown q k w l (λ h. map (condition (triple q h alpha r m) b) (below n)) (now (leads .entry)) (now (leads .exit)) (now (work .entry)) (now (work .exit))) ⌝ }
 {
@@ -55,7 +56,8 @@ fn by_weights(
     leads: &mut [usize],
     work: &mut [u16],
 )
-    requires { ⌜ Shaped q k w l × (m ≤ 4) × (length (now xs) ≡ 1024) × (length (now ys) ≡ 1024) × (l < length (now leads)) × Fit k w l (now leads) × ((l + 1) * slot w l ≤ length (now work)) ⌝ }
+    requires { ⌜ Shaped q k w l × (m ≤ 4) × (length (now xs) ≡ 1024) × (length (now ys) ≡ 1024) × (l < length (now leads)) × Fit k w l (now leads)
+        × ((l + 1) * slot w l ≤ length (now work)) ⌝ }
     ensures { λ _. ⌜ Fit k w l (now (leads .exit)) × ((r : ℕ) → Weights q alpha m w (now (xs .entry)) → Weights q r m (l + 1) (now (ys .entry)) →
         Grown q k w l (λ h. conditions-at (triple q h alpha r m)) (now (leads .entry)) (now (leads .exit)) (now (work .entry)) (now (work .exit))) ⌝ }
 {
@@ -81,7 +83,8 @@ fn meet(
     work: &mut [u16],
 )
     requires { ⌜ Shaped q k w l × (m ≤ 4) × (l < length (now leads)) × Fit k w l (now leads) × ((l + 1) * slot w l ≤ length (now work)) ⌝ }
-    ensures { λ _. ⌜ Fit k w l (now (leads .exit)) × Grown q k w l (λ h. conditions-at (triple q h alpha symbol m)) (now (leads .entry)) (now (leads .exit)) (now (work .entry)) (now (work .exit)) ⌝ }
+    ensures { λ _. ⌜ Fit k w l (now (leads .exit)) × Grown q k w l (λ h. conditions-at (triple q h alpha symbol m)) (now (leads .entry))
+        (now (leads .exit)) (now (work .entry)) (now (work .exit)) ⌝ }
 {
     let mut xs = [0u16; 1024];
     let mut ys = [0u16; 1024];
@@ -102,8 +105,12 @@ pub fn meet_all(
     leads: &mut [usize],
     work: &mut [u16],
 )
-    requires { ⌜ Shaped q k w l × (length (now word) ≡ length (now points)) × (length (now times) ≡ length (now points)) × ((j : ℕ) → j < length (now times) → getD (now times) j 0 ≤ 4) × (l < length (now leads)) × Fit k w l (now leads) × ((l + 1) * slot w l ≤ length (now work)) ⌝ }
-    ensures { λ _. ⌜ Fit k w l (now (leads .exit)) × Grown q k w l (λ h. conditions (map (move (elt q h)) (tripled (now (points .entry)) (now (word .entry)) (now (times .entry))))) (now (leads .entry)) (now (leads .exit)) (now (work .entry)) (now (work .exit)) ⌝ }
+    requires { ⌜ Shaped q k w l × (length (now word) ≡ length (now points)) × (length (now times) ≡ length (now points))
+        × ((j : ℕ) → j < length (now times) → getD (now times) j 0 ≤ 4) × (l < length (now leads)) × Fit k w l (now leads)
+        × ((l + 1) * slot w l ≤ length (now work)) ⌝ }
+    ensures { λ _. ⌜ Fit k w l (now (leads .exit)) × Grown q k w l
+        (λ h. conditions (map (move (elt q h)) (tripled (now (points .entry)) (now (word .entry)) (now (times .entry))))) (now (leads .entry))
+        (now (leads .exit)) (now (work .entry)) (now (work .exit)) ⌝ }
 {
     let mut j: usize = 0;
     while j < points.len() {

@@ -80,7 +80,7 @@ pub fn raise(q: u16, k: usize, w: usize, l: usize, alpha: u16, work: &mut [u16],
     }
 }
 
-// Every curve whose value is not zero loses its value times `over` of curve p, whose value is not looked at any more and must be 0.
+// Every curve whose value is not zero loses its value times `over` of curve p. The value of p is set to 0 before, so that p itself stays.
 pub fn sweep(
     q: u16,
     k: usize,

@@ -24,8 +24,10 @@ pub fn evaluate(
     work: &[u16],
     values: &mut [u16],
 )
-    requires { ⌜ Shaped q k w l × (length (now x) ≡ w) × (length (now y) ≡ l + 1) × (l < length (now leads)) × Fit k w l (now leads) × ((l + 1) * slot w l ≤ length (now work)) × (l < length (now values)) ⌝ }
-    ensures { λ _. ⌜ Changed (valued q k w l (now (x .entry)) (now (y .entry)) (now (leads .entry)) (now (work .entry))) 0 (l + 1) (now (values .entry)) (now (values .exit)) ⌝ }
+    requires { ⌜ Shaped q k w l × (length (now x) ≡ w) × (length (now y) ≡ l + 1) × (l < length (now leads)) × Fit k w l (now leads)
+        × ((l + 1) * slot w l ≤ length (now work)) × (l < length (now values)) ⌝ }
+    ensures { λ _. ⌜ Changed (valued q k w l (now (x .entry)) (now (y .entry)) (now (leads .entry)) (now (work .entry))) 0 (l + 1)
+        (now (values .entry)) (now (values .exit)) ⌝ }
 {
     let s = room(q, k, w, l);
     let mut j: usize = 0;
@@ -68,7 +70,8 @@ pub fn pivot(q: u16, k: usize, w: usize, l: usize, leads: &[usize], values: &[u1
     best
 }
 
-// One condition, whose weights are x and y: every curve that misses it loses what it has too much of the pivot, and the pivot is multiplied by x − α.
+// One condition, whose weights are x and y: every other curve that misses it loses the multiple of the pivot that makes it meet it,
+// and the pivot is multiplied by x − α.
 pub fn condition(
     q: u16,
     k: usize,
@@ -80,7 +83,8 @@ pub fn condition(
     leads: &mut [usize],
     work: &mut [u16],
 )
-    requires { ⌜ Shaped q k w l × (length (now x) ≡ w) × (length (now y) ≡ l + 1) × (l < length (now leads)) × Fit k w l (now leads) × ((l + 1) * slot w l ≤ length (now work)) ⌝ }
+    requires { ⌜ Shaped q k w l × (length (now x) ≡ w) × (length (now y) ≡ l + 1) × (l < length (now leads)) × Fit k w l (now leads)
+        × ((l + 1) * slot w l ≤ length (now work)) ⌝ }
     ensures { λ _. ⌜ Met q k w l alpha (now (x .entry)) (now (y .entry)) (now (leads .entry)) (now (leads .exit)) (now (work .entry)) (now (work .exit)) ⌝ }
 {
     let mut values = [0u16; 25];

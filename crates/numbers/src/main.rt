@@ -4,6 +4,7 @@ mod settings;
 mod symbols;
 mod text;
 
+// The setting call, the field calls and encode, one after the other.
 fn main() {
     settings::run();
     symbols::run();

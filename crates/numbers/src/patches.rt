@@ -16,6 +16,7 @@ fn line(p: usize, n: usize, k: usize, points: &[u16], message: &[u16], room: usi
     show(&buffer);
 }
 
+// The numbers of the buffer, and the end of the line.
 fn show(buffer: &[u16; 10]) {
     let mut i: usize = 0;
     while i < 9 {
@@ -25,6 +26,7 @@ fn show(buffer: &[u16; 10]) {
     put_symbol(buffer[9], b'\n');
 }
 
+// Every case of the call.
 pub fn run() {
     let points = [0u16, 1, 2, 3, 4, 5, 6, 6];
     let message = [3u16, 2, 7];

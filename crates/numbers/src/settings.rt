@@ -76,6 +76,7 @@ const CASES: [Case; COUNT] = [
     ),
 ];
 
+// The call for one case.
 fn line(z: Case) {
     put(z.0, b' ');
     put(z.1, b' ');
@@ -91,6 +92,7 @@ fn line(z: Case) {
     put(d.r, b'\n');
 }
 
+// Every case of the call.
 pub fn run() {
     let cases = CASES;
     let mut i: usize = 0;

@@ -27,11 +27,13 @@ const CASES: [Case; COUNT] = [
     Case(929, 65535, 65535),
 ];
 
+// What a field call answers.
 fn pair(a: field::Answer, after: u8) {
     put(a.refusal as usize, b' ');
     put(a.symbol as usize, after);
 }
 
+// The four calls for one case.
 fn line(z: Case) {
     put(z.0, b' ');
     put(z.1 as usize, b' ');
@@ -42,6 +44,7 @@ fn line(z: Case) {
     pair(field::inverse(z.0, z.1), b'\n');
 }
 
+// Every case of the calls.
 pub fn run() {
     let cases = CASES;
     let mut i: usize = 0;

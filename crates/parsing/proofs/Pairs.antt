@@ -30,7 +30,8 @@ unfolding body
 body-count b = simp length-drop (omega (arith, pairs-count b))
 
 -- one number of the body more
-pub body-more : (b d e : List ℕ) (i v : ℕ) → e ≡ sets d 0 (take i (body b)) → i < length (body b) → v ≡ getD (pairs b) (i + 2) 0 → set e i v ≡ sets d 0 (take (i + 1) (body b))
+pub body-more : (b d e : List ℕ) (i v : ℕ) → e ≡ sets d 0 (take i (body b)) → i < length (body b) → v ≡ getD (pairs b) (i + 2) 0 →
+    set e i v ≡ sets d 0 (take (i + 1) (body b))
 unfolding body
 body-more b d e i v h l q =
     let t = take i (body b) in

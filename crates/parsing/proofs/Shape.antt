@@ -69,7 +69,8 @@ module _ (b : List ℕ) (n : ℕ) (is : n ≡ length-of b) where
     module _ (l : 2 + n ≤ length b) (j : ℕ) (e : j ≡ getD (pairs b) 1 0) where
       pub broken-setting : j ≡ 1 → {r : Bool} → r ≡ not (eqb n 12) → r ≡ broken b
       unfolding broken kind
-      broken-setting k h = simp (fitting, le-ltb (length b) (2 + length-of b) (omega arith), eq-eqb (getD (pairs b) 1 0) 1 (sym e ∙ k)) (h ∙ ap (λ x. not (eqb x 12)) is)
+      broken-setting k h = simp (fitting, le-ltb (length b) (2 + length-of b) (omega arith), eq-eqb (getD (pairs b) 1 0) 1 (sym e ∙ k))
+          (h ∙ ap (λ x. not (eqb x 12)) is)
 
       pub not-broken : ¬ (j ≡ 1) → false ≡ broken b
       unfolding broken kind
@@ -77,7 +78,8 @@ module _ (b : List ℕ) (n : ℕ) (is : n ≡ length-of b) where
 
 -- what a record has that is not refused with 10
 module _ (b : List ℕ) (w : broken b ≡ false) where
-  whole-tests : ((not (length-fits (length-of b)) ≡ false) × (ltb (length b) (2 + length-of b) ≡ false)) × (eqb (kind b) 1 && not (eqb (length-of b) 12) ≡ false)
+  whole-tests : ((not (length-fits (length-of b)) ≡ false) × (ltb (length b) (2 + length-of b) ≡ false))
+      × (eqb (kind b) 1 && not (eqb (length-of b) 12) ≡ false)
   unfolding broken
   whole-tests = let h = or-false (not (length-fits (length-of b)) || ltb (length b) (2 + length-of b)) _ w in (or-false _ _ (h .0), h .1)
 

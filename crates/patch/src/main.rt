@@ -40,6 +40,7 @@ fn turn(held: records::Held, number: u64) -> records::Done
     done
 }
 
+// Takes record after record until one stops it: the end of the input, or refusal 10.
 fn main() {
     let mut held = records::start();
     let mut number: u64 = 0;

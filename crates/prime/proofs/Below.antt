@@ -4,9 +4,7 @@ use Prim.Native.Nat.{ℕ, _+_, _-_, _%_, _≤_, _<_}
 use native.Mathlib.Nat.{mod-lt, mod-mod, add-mod, mod-add-mod}
 use native.Mathlib.Omega.{arith}
 use lib.Dec.{T, eqb}
-use Rattle.rules.specs.Lists.{from, below}
-use Rattle.rules.specs.Field.{ops, plus, minus, times, image, alike, modulus, inverse}
-use Rattle.rules.proofs.Tests.{pick-in, mem-from}
+use Rattle.rules.specs.Field.{plus, minus, times, image, alike, modulus}
 use Rattle.prime.proofs.Mod.{mul-mod-left, mul-mod-right}
 use Rattle.prime.proofs.Tests.{modulus-says}
 
@@ -24,10 +22,6 @@ module _ (q : ℕ) (m : T (modulus q)) where
   unfolding plus
   plus-below a b = reduced-below (a + b)
 
-  pub minus-below : (a b : ℕ) → minus q a b < q
-  unfolding minus
-  minus-below a b = reduced-below _
-
   pub times-below : (a b : ℕ) → times q a b < q
   unfolding times
   times-below a b = reduced-below _
@@ -35,10 +29,6 @@ module _ (q : ℕ) (m : T (modulus q)) where
   pub image-below : (n : ℕ) → image q n < q
   unfolding image
   image-below n = reduced-below n
-
-  pub inverse-below : (a : ℕ) → inverse (ops q) a < q
-  unfolding inverse below
-  inverse-below a = pick-in _ (λ b. b < q) (from 0 q) 0 (omega (arith, modulus-two)) (λ b i. omega (arith, mem-from b 0 q i))
 
 module _ (q a b : ℕ) where
   pub plus-reduced : plus q (a % q) (b % q) ≡ plus q a b
@@ -56,7 +46,3 @@ module _ (q a b : ℕ) where
   pub alike-reduced : alike q (a % q) (b % q) ≡ alike q a b
   unfolding alike
   alike-reduced = ap₂ eqb (mod-mod a q) (mod-mod b q)
-
-pub image-reduced : (q n : ℕ) → image q (n % q) ≡ image q n
-unfolding image
-image-reduced q n = mod-mod n q

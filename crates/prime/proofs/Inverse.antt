@@ -14,7 +14,16 @@ use Rattle.prime.proofs.Tests.{Prime}
 -- p = a·q + r, and b takes r to 1: then q·(p−1)·b takes a to 1
 module _ (p a q r c b : ℕ) (e : a * q + r ≡ p) (f : c + 1 ≡ p) where
   whole : a * (q * (c * b)) + p * (r * b) ≡ r * b + p * (c * b)
-  whole = omega (arith, add-mul (a * q) r (c * b), ap (λ n. n * (c * b)) e, mul-assoc a q (c * b), mul-left-comm r c b, add-mul c 1 (r * b), ap (λ n. n * (r * b)) f, one-mul (r * b))
+  whole = omega (
+    arith,
+    add-mul (a * q) r (c * b),
+    ap (λ n. n * (c * b)) e,
+    mul-assoc a q (c * b),
+    mul-left-comm r c b,
+    add-mul c 1 (r * b),
+    ap (λ n. n * (r * b)) f,
+    one-mul (r * b),
+  )
 
   turn : r * b % p ≡ 1 → a * (q * (c * b)) % p ≡ 1
   turn g = sym (add-mul-mod-self-left _ p (r * b)) ∙ ap (λ x. x % p) whole ∙ add-mul-mod-self-left (r * b) p (c * b) ∙ g

@@ -53,7 +53,8 @@ module _ (q : ℕ) (h : 1 < q) where
   once : (a n : ℕ) → a + n ≤ q → T (distinct (F .same) (map (elt q h) (from a n)))
   unfolding distinct from
   once a zero l = tt
-  once a (suc n) l = and (all (λ y. not (F .same (elt q h a) y)) (map (elt q h) (from (suc a) n))) (distinct (F .same) (map (elt q h) (from (suc a) n))) (apart a (suc a) n (omega arith) (omega arith)) (once (suc a) n (omega arith))
+  once a (suc n) l = and (all (λ y. not (F .same (elt q h a) y)) (map (elt q h) (from (suc a) n)))
+      (distinct (F .same) (map (elt q h) (from (suc a) n))) (apart a (suc a) n (omega arith) (omega arith)) (once (suc a) n (omega arith))
 
   sub-add : (a b : Fin q) → F .add (F .sub a b) b ≡ a
   unfolding plus minus

@@ -25,13 +25,15 @@ module _ (i : ℕ) {S : Setting} {points word list : List ℕ} {r found : ℕ} (
   unfolding word-turn
   word-refused n e = rw (← h .is-refusal, ne-eqb r 0 n, e)
 
-  module _ (z : r ≡ 0) {d e f : List ℕ} {a w : ℕ} (first : Wrote (line (digits i) (3 ∷ 0 ∷ found ∷ [])) 0 d e a) (rest : Wrote (plus-lines (rows (S .k) found list)) a e f w) where
+  module _ (z : r ≡ 0) {d e f : List ℕ} {a w : ℕ} (first : Wrote (line (digits i) (3 ∷ 0 ∷ found ∷ [])) 0 d e a)
+      (rest : Wrote (plus-lines (rows (S .k) found list)) a e f w) where
     text-is : Wrote (line (digits i) (3 ∷ 0 ∷ length (messages-of S points word) ∷ []) ++ plus-lines (messages-of S points word)) 0 d f w
     text-is = let l = h .accepted z in
         wrote-as (wrote-then first rest) (ap (λ n. line (digits i) (3 ∷ 0 ∷ n ∷ []) ++ plus-lines (rows (S .k) found list)) (l .count)
         ∙ ap (λ ms. line (digits i) (3 ∷ 0 ∷ length (messages-of S points word) ∷ []) ++ plus-lines ms) (l .rows-are))
 
-    pub word-heard : {held : Record} → held-of held ≡ ready S points → w ≤ length d → Did (word-turn i S points word) d f (record { held = held; wrote = w; more = true })
+    pub word-heard : {held : Record} → held-of held ≡ ready S points → w ≤ length d →
+        Did (word-turn i S points word) d f (record { held = held; wrote = w; more = true })
     unfolding word-turn
     word-heard {held} k l = record {
       held = k;

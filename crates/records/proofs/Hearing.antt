@@ -123,7 +123,8 @@ module _ (S : Setting) (points word : List ℕ) (K : Kept S points) where
 
       read-list : list ≡ messages-of S points word
       unfolding list under
-      read-list = list-readings S points word (used S (o .curve)) (K .setting .passed .prime) (omega (arith, K .setting .passed .ranged .code .k-least)) (omega (arith, K .setting .passed .ranged .s-least))
+      read-list = list-readings S points word (used S (o .curve)) (K .setting .passed .prime)
+          (omega (arith, K .setting .passed .ranged .code .k-least)) (omega (arith, K .setting .passed .ranged .s-least))
           (subst T (sym (K .points-under)) tt) (subst T (sym (K .apart)) tt) fitting
 
       long-list : Long (S .k) list
@@ -140,13 +141,20 @@ module _ (S : Setting) (points word : List ℕ) (K : Kept S points) where
       pub listed : Listed S (messages-of S points word) (o .output) (o .found)
       listed = let q : o .found * S .k ≤ length (o .output) = room in record {
         count = how-many ∙ ap length read-list;
-        rows-are = ap (λ (n : ℕ). rows (S .k) n (o .output)) how-many ∙ ap (λ (x : List ℕ). rows (S .k) (length list) x) in-front ∙ rows-flat (S .k) list _ long-list ∙ read-list;
+        rows-are = ap (λ (n : ℕ). rows (S .k) n (o .output)) how-many ∙ ap (λ (x : List ℕ). rows (S .k) (length list) x) in-front
+            ∙ rows-flat (S .k) list _ long-list ∙ read-list;
         room = q;
         few = omega (arith, q, le-mul-of-pos-right {m = S .k} (o .found) (omega (arith, K .setting .passed .ranged .code .k-least)));
       }
         where
           room : o .found * S .k ≤ length (o .output)
-          room = omega (arith, ap (λ x. x * S .k) how-many, flat-long (S .k) list long-list, ap length in-front, length-append (flatten list) (drop (length (flatten list)) output))
+          room = omega (
+            arith,
+            ap (λ x. x * S .k) how-many,
+            flat-long (S .k) list long-list,
+            ap length in-front,
+            length-append (flatten list) (drop (length (flatten list)) output),
+          )
 
     pub heard : length (o .output) ≡ 1536 → Heard S points word (o .output) (o .refusal) (o .found)
     heard l = record { list-long = l; is-refusal = refusal-is; accepted = listed }

@@ -30,7 +30,8 @@ unfolding rows flatMap
 lines-none k xs = refl
 
 -- one line more, of the k numbers from a on
-pub lines-more : (k j a e : ℕ) (xs : List ℕ) → a ≡ j * k → e ≡ a + k → plus-lines (rows k j xs) ++ line (43 ∷ []) (take (e - a) (drop a xs)) ≡ plus-lines (rows k (j + 1) xs)
+pub lines-more : (k j a e : ℕ) (xs : List ℕ) → a ≡ j * k → e ≡ a + k →
+    plus-lines (rows k j xs) ++ line (43 ∷ []) (take (e - a) (drop a xs)) ≡ plus-lines (rows k (j + 1) xs)
 lines-more k j a e xs p q =
     let w : e - a ≡ k = omega arith in
     ap (λ n. plus-lines (rows k j xs) ++ line (43 ∷ []) (take n (drop a xs))) w

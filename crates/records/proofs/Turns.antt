@@ -41,7 +41,8 @@ module _ {numbers d e : List ℕ} {m : ℕ} (l : length d ≡ 64) (h : Bodied nu
   body-short = omega (arith, ap length (h .out), length-sets d 0 numbers)
 
 module _ (i : ℕ) (S : Setting) (numbers : List ℕ) {r : ℕ} (e : r ≡ points-refusal S numbers) {held : Held} where
-  pub points-taken : r ≡ 0 → {m : ℕ} (array : List ℕ) → m ≡ length numbers → take m array ≡ numbers → held ≡ ready S (take (S .n) array) → told-turn held i 2 0 true ≡ points-turn i S numbers
+  pub points-taken : r ≡ 0 → {m : ℕ} (array : List ℕ) → m ≡ length numbers → take m array ≡ numbers → held ≡ ready S (take (S .n) array) →
+      told-turn held i 2 0 true ≡ points-turn i S numbers
   unfolding points-turn
   points-taken z {m} array c f h =
       let q : points-refusal S numbers ≡ 0 = sym e ∙ z in

@@ -9,6 +9,7 @@ use Rattle.rules.specs.Setting.{Setting}
 use Rattle.rules.specs.Search.{rows}
 use Rattle.rules.specs.Patch.{word-refusal}
 
+-- the readings of the word
 abbrev pub messages-of : Setting → List ℕ → List ℕ → List (List ℕ)
 messages-of S points word = readings (ops (S .p)) (S .k) (S .n - S .τ) points word
 
@@ -19,6 +20,7 @@ pub record Listed (S : Setting) (messages : List (List ℕ)) (list : List ℕ) (
   pub room : found * S .k ≤ length list
   pub few : found ≤ length list
 
+-- the refusal is the word's, and where there is none the list holds the readings
 pub record Heard (S : Setting) (points word list : List ℕ) (refusal found : ℕ) : Type 0 where
   pub list-long : length list ≡ 1536
   pub is-refusal : refusal ≡ word-refusal S word

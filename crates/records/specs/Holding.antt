@@ -11,14 +11,17 @@ use Rattle.records.specs.declared.Stage.{Stage}
 use Rattle.records.specs.declared.Stage.the-variants.{Nothing, Set, Ready}
 use Rattle.records.specs.declared.Held.{Held}
 
+-- the setting of a record
 abbrev pub setting-of : Setting → Rule
 setting-of s = record { p = s .p; n = s .n; k = s .k; s = s .s; τ = s .tau }
 
+-- what is held at each stage
 abbrev pub at-stage : Stage → Setting → List ℕ → Holding
 at-stage Nothing s points = nothing
 at-stage Set s points = set (setting-of s)
 at-stage Ready s points = ready (setting-of s) (take (s .n) points)
 
+-- what the struct holds
 abbrev pub held-of : Held → Holding
 held-of h = at-stage (h .stage) (h .setting) (h .points)
 

@@ -13,7 +13,7 @@ use crate::told;
 use crate::with_points;
 use crate::with_setting;
 
-// 5, 6 or 7.
+// The refusal number of points for a setting: 5, 6, 7, or 0.
 fn points_refusal(s: Setting, points: &[u16]) -> u16
     ensures { λ r. ⌜ r ≡ points-refusal (setting-of s) (now (points .entry)) ⌝ }
 {
@@ -45,6 +45,7 @@ fn fit_points(setting: Setting, number: u64, bytes: &[u8], out: &mut [u8]) -> Do
     told(held, number, 2, refusal, true, out)
 }
 
+// 12 where no setting is held, before the body is read.
 pub fn take_points(held: Held, number: u64, bytes: &[u8], out: &mut [u8]) -> Done
     requires { ⌜ (4 ≤ length (now bytes)) × (length (now bytes) ≤ 132) × (16384 ≤ length (now out)) ⌝ }
     ensures { λ r. ⌜ Did (points-come number (held-of held) (body (now (bytes .entry)))) (now (out .entry)) (now (out .exit)) r ⌝ }

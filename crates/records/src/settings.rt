@@ -44,6 +44,7 @@ fn setting_refusal(s: Setting) -> u16
     0
 }
 
+// A setting that is accepted is held, and any other leaves nothing held.
 pub fn take_setting(number: u64, bytes: &[u8], out: &mut [u8]) -> Done
     requires { ⌜ (14 ≤ length (now bytes)) × (16384 ≤ length (now out)) ⌝ }
     ensures { λ r. ⌜ Did (setting-turn number (body (now (bytes .entry)))) (now (out .entry)) (now (out .exit)) r ⌝ }

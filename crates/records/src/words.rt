@@ -25,7 +25,8 @@ struct Answer {
 // "After it comes "+" and k symbols for each candidate": a line for each.
 fn candidates(list: &[u16], k: usize, found: usize, out: &mut [u8], at: usize) -> usize
     requires { ⌜ (found * k ≤ length (now list)) × (at + found * (k * 6 + 2) ≤ length (now out)) ⌝ }
-    ensures { λ r. ⌜ (r ≤ at + found * (k * 6 + 2)) × Wrote (flatMap (line (43 ∷ [])) (rows k found (now (list .entry)))) at (now (out .entry)) (now (out .exit)) r ⌝ }
+    ensures { λ r. ⌜ (r ≤ at + found * (k * 6 + 2))
+        × Wrote (flatMap (line (43 ∷ [])) (rows k found (now (list .entry)))) at (now (out .entry)) (now (out .exit)) r ⌝ }
 {
     let mut j: usize = 0;
     let mut a: usize = 0;
@@ -39,7 +40,7 @@ fn candidates(list: &[u16], k: usize, found: usize, out: &mut [u8], at: usize) -
     to
 }
 
-// The word is the first m of its array.
+// Reads the word, which is the first m of its array, with the held setting and points.
 fn read_held(
     s: Setting,
     points: &[u16; 64],
@@ -75,8 +76,10 @@ fn read_held(
 
 // A word for this setting and these points.
 fn read_word(setting: Setting, points: [u16; 64], number: u64, bytes: &[u8], out: &mut [u8]) -> Done
-    requires { ⌜ T (possible (ready (setting-of setting) (take (setting .n) points))) × (4 ≤ length (now bytes)) × (length (now bytes) ≤ 132) × (16384 ≤ length (now out)) ⌝ }
-    ensures { λ r. ⌜ Did (word-turn number (setting-of setting) (take (setting .n) points) (body (now (bytes .entry)))) (now (out .entry)) (now (out .exit)) r ⌝ }
+    requires { ⌜ T (possible (ready (setting-of setting) (take (setting .n) points))) × (4 ≤ length (now bytes)) × (length (now bytes) ≤ 132)
+        × (16384 ≤ length (now out)) ⌝ }
+    ensures { λ r. ⌜ Did (word-turn number (setting-of setting) (take (setting .n) points) (body (now (bytes .entry)))) (now (out .entry))
+        (now (out .exit)) r ⌝ }
 {
     let held = with_points(setting, points);
     let mut word = [0u16; 64];
@@ -98,6 +101,7 @@ fn read_word(setting: Setting, points: [u16; 64], number: u64, bytes: &[u8], out
     }
 }
 
+// 12 where no points are held, before the body is read.
 pub fn take_word(held: Held, number: u64, bytes: &[u8], out: &mut [u8]) -> Done
     requires { ⌜ T (possible (held-of held)) × (4 ≤ length (now bytes)) × (length (now bytes) ≤ 132) × (16384 ≤ length (now out)) ⌝ }
     ensures { λ r. ⌜ Did (word-comes number (held-of held) (body (now (bytes .entry)))) (now (out .entry)) (now (out .exit)) r ⌝ }

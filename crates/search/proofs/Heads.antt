@@ -56,7 +56,8 @@ module _ (q w : ℕ) where
     heads-more b d t sum o p m e =
         let s : List ℕ = run b ((l + 1) * w) d in
         let f : t - 1 < l + 1 = omega arith in
-        ap₂ (λ (a c : ℕ). plus q a (times q g c)) (sym (heads-at (l + 1) (t - 1) s o f ∙ run-at b ((l + 1) * w) d ((t - 1) * w) (omega (arith, row-fits w f)))) e
+        ap₂ (λ (a c : ℕ). plus q a (times q g c))
+        (sym (heads-at (l + 1) (t - 1) s o f ∙ run-at b ((l + 1) * w) d ((t - 1) * w) (omega (arith, row-fits w f)))) e
         ∙ eval-more q (heads s) g t p (omega (arith, heads-length (l + 1) s))
 
     eval-below : T (modulus q) → (f : List ℕ) → eval (ops q) f g < q
@@ -65,7 +66,8 @@ module _ (q w : ℕ) where
     eval-below m (c ∷ f) = plus-below q m c _
 
     -- the number is zero, so the symbol is
-    pub heads-test : T (modulus q) → (Q : List (List ℕ)) (t sum : ℕ) → t ≡ 0 → sum ≡ eval (ops q) (drop t (firsts (ops q) Q)) g → eqb sum 0 ≡ follows (ops q) Q g
+    pub heads-test : T (modulus q) → (Q : List (List ℕ)) (t sum : ℕ) → t ≡ 0 → sum ≡ eval (ops q) (drop t (firsts (ops q) Q)) g →
+        eqb sum 0 ≡ follows (ops q) Q g
     unfolding follows alike
     heads-test m Q t sum z e =
         let f = eval-below m (firsts (ops q) Q) in

@@ -1,10 +1,11 @@
+-- The lemmas of the crate, each file after those that it rests on.
 pub mod Heads
+pub mod Stepping
+pub mod Turning
+pub mod Numbers
 pub mod Next
 pub mod Nexted
-pub mod Numbers
 pub mod Roots
-pub mod Start
-pub mod Stepping
-pub mod Turn
-pub mod Turning
 pub mod Walked
+pub mod Turn
+pub mod Start

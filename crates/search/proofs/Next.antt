@@ -84,7 +84,8 @@ module _ (q : ℕ) (m : T (modulus q)) where
       pub strip-within : (k : ℕ) → Within (ops q) k w (rows w n p) → Within (ops q) k w (rows w n r)
       strip-within k z = within-values k r br (λ t i l. ap (λ c. c t i) strips ∙ stripped-within F (laws q m h) k w _ (within-elts k p z) t i l)
 
-      module _ (g : ℕ) (gq : g < q) (s : List ℕ) (bs : Low s) (steps : (t i : ℕ) → t < n → i < w → getD p (t * w + i) 0 ≡ cell (ops q) (step (ops q) g (rows w n s)) t i) where
+      module _ (g : ℕ) (gq : g < q) (s : List ℕ) (bs : Low s)
+          (steps : (t i : ℕ) → t < n → i < w → getD p (t * w + i) 0 ≡ cell (ops q) (step (ops q) g (rows w n s)) t i) where
         cells : (t i : ℕ) → t < n → i < w → getD (map e p) (t * w + i) (F .nil) ≡ cell F (step F (e g) (rows w n (map e s))) t i
         cells t i l k =
             elt-at p _ ∙ ap e (steps t i l k ∙ sym (step-value q m g gq (rows w n s) (rows-values q m w n s bs) 0 t i)) ∙ elt-value q h _

@@ -42,8 +42,10 @@ module _ (w l b : ℕ) (d e : List ℕ) (c : Stripped w l b d e) where
       (λ u. rw (shifted .behind t i k j u) o)
       (lt-or-ge (i + c .v) w)
 
-module _ (q : ℕ) (m : T (modulus q)) (g : ℕ) (gq : g < q) (w l a : ℕ) (o : 0 < w) (d d₁ d₂ e : List ℕ) (fits : (l + 1) * w ≤ a) (room : a + (l + 1) * w + (l + 1) * w ≤ length d)
-    (low : Below q a ((l + 1) * w) d) (copied : Changed (λ i. getD d (a + i) 0) 0 ((l + 1) * w) d d₁) (stepped : Substituted q g w l d₁ d₂) (c : Stripped w l (a + (l + 1) * w) d₂ e) where
+module _ (q : ℕ) (m : T (modulus q)) (g : ℕ) (gq : g < q) (w l a : ℕ) (o : 0 < w) (d d₁ d₂ e : List ℕ) (fits : (l + 1) * w ≤ a)
+    (room : a + (l + 1) * w + (l + 1) * w ≤ length d)
+    (low : Below q a ((l + 1) * w) d) (copied : Changed (λ i. getD d (a + i) 0) 0 ((l + 1) * w) d d₁) (stepped : Substituted q g w l d₁ d₂)
+    (c : Stripped w l (a + (l + 1) * w) d₂ e) where
   abbrev n : ℕ
   n = (l + 1) * w
 
@@ -60,13 +62,15 @@ module _ (q : ℕ) (m : T (modulus q)) (g : ℕ) (gq : g < q) (w l a : ℕ) (o :
   low-s j k = rw (run-at a n d j k) (low j k)
 
   same : rows w (l + 1) d₁ ≡ rows w (l + 1) s
-  same = rows-same w (l + 1) d₁ s (omega (arith, copied .len)) (omega (arith, len-mid a n d (omega arith))) (λ j k. changed-front copied j k ∙ sym (run-at a n d j k))
+  same = rows-same w (l + 1) d₁ s (omega (arith, copied .len)) (omega (arith, len-mid a n d (omega arith)))
+      (λ j k. changed-front copied j k ∙ sym (run-at a n d j k))
 
   steps : (t i : ℕ) → t < l + 1 → i < w → getD p (t * w + i) 0 ≡ cell (ops q) (step (ops q) g (rows w (l + 1) s)) t i
   steps t i k j = run-front n d₂ _ (omega (arith, row-fits w k)) ∙ stepped .cells t i k j ∙ ap (λ (P : List (List ℕ)). cell (ops q) (step (ops q) g P) t i) same
 
   low-p : (j : ℕ) → j < n → getD p j 0 < q
-  low-p = by-cell w (l + 1) (λ j. getD p j 0 < q) o λ t i k j. rw (steps t i k j) (number-below q m g gq (rows w (l + 1) s) (rows-values q m w (l + 1) s low-s) 0 t i)
+  low-p = by-cell w (l + 1) (λ j. getD p j 0 < q) o λ t i k j. rw (steps t i k j)
+      (number-below q m g gq (rows w (l + 1) s) (rows-values q m w (l + 1) s low-s) 0 t i)
 
   low-r : (j : ℕ) → j < n → getD r j 0 < q
   low-r = strip-low w l (a + n) d₂ e c q (omega (arith, modulus-two q m)) o low-p

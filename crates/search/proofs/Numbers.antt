@@ -24,7 +24,8 @@ use Rattle.demands.proofs.Link.{value-hom}
 use Rattle.buffers.proofs.Rows.{row-fits}
 
 -- a coefficient crosses
-pub cell-hom : (O O′ : Ops) (φ : O .Symbol → O′ .Symbol) (H : Hom O O′ φ) (Q : List (List (O .Symbol))) (t i : ℕ) → φ (cell O Q t i) ≡ cell O′ (map (map φ) Q) t i
+pub cell-hom : (O O′ : Ops) (φ : O .Symbol → O′ .Symbol) (H : Hom O O′ φ) (Q : List (List (O .Symbol))) (t i : ℕ) →
+    φ (cell O Q t i) ≡ cell O′ (map (map φ) Q) t i
 unfolding cell coef
 cell-hom O O′ φ H Q t i =
     sym (List·getD-map φ (getD Q t []) i (O .nil))
@@ -67,12 +68,14 @@ module _ (q : ℕ) (m : T (modulus q)) where
     cell-value t i = cell-hom F (ops q) value (value-hom q m h) Q′ t i ∙ ap (λ (P : List (List ℕ)). cell (ops q) P t i) c
 
     -- Horner's rule from the last row on
-    pub number-zero : (u i : ℕ) → u < length Q → cell (ops q) (step (ops q) g (drop u Q)) 0 i ≡ plus q (cell (ops q) Q u i) (times q g (cell (ops q) (step (ops q) g (drop (suc u) Q)) 0 i))
+    pub number-zero : (u i : ℕ) → u < length Q →
+        cell (ops q) (step (ops q) g (drop u Q)) 0 i ≡ plus q (cell (ops q) Q u i) (times q g (cell (ops q) (step (ops q) g (drop (suc u) Q)) 0 i))
     number-zero u i l =
         sym (step-value u 0 i)
         ∙ ap value (step-from-zero F (laws q m h) (e g) Q′ u (omega (arith, length-map Q (map e))) i)
         ∙ value-hom q m h .add (cell F Q′ u i) (F .mul (e g) (cell F (step F (e g) (drop (suc u) Q′)) 0 i))
-        ∙ ap₂ (plus q) (cell-value u i) (value-hom q m h .mul (e g) (cell F (step F (e g) (drop (suc u) Q′)) 0 i) ∙ ap₂ (times q) (mod-eq-of-lt b) (step-value (suc u) 0 i))
+        ∙ ap₂ (plus q) (cell-value u i)
+        (value-hom q m h .mul (e g) (cell F (step F (e g) (drop (suc u) Q′)) 0 i) ∙ ap₂ (times q) (mod-eq-of-lt b) (step-value (suc u) 0 i))
 
     shift-value : (u t i : ℕ) → value (shift F (cell F (step F (e g) (drop u Q′)) t) i) ≡ shift (ops q) (cell (ops q) (step (ops q) g (drop u Q)) t) i
     unfolding shift
@@ -85,13 +88,15 @@ module _ (q : ℕ) (m : T (modulus q)) where
         sym (step-value u (suc t) i)
         ∙ ap value (step-from-suc F (laws q m h) (e g) Q′ u (omega (arith, length-map Q (map e))) t i)
         ∙ value-hom q m h .add (shift F (cell F (step F (e g) (drop (suc u) Q′)) t) i) (F .mul (e g) (cell F (step F (e g) (drop (suc u) Q′)) (suc t) i))
-        ∙ ap₂ (plus q) (shift-value (suc u) t i) (value-hom q m h .mul (e g) (cell F (step F (e g) (drop (suc u) Q′)) (suc t) i) ∙ ap₂ (times q) (mod-eq-of-lt b) (step-value (suc u) (suc t) i))
+        ∙ ap₂ (plus q) (shift-value (suc u) t i)
+        (value-hom q m h .mul (e g) (cell F (step F (e g) (drop (suc u) Q′)) (suc t) i) ∙ ap₂ (times q) (mod-eq-of-lt b) (step-value (suc u) (suc t) i))
 
     -- the step adds no row
     pub number-tall : (u t i : ℕ) → length Q ≤ u + t → cell (ops q) (step (ops q) g (drop u Q)) t i ≡ 0
     number-tall u t i l =
         sym (step-value u t i)
-        ∙ ap value (step-tall F (laws q m h) (e g) (length Q - u) (drop u Q′) (λ s j k. cell-length F (laws q m h) (drop u Q′) s j (omega (arith, length-drop u Q′, length-map Q (map e)))) t i (omega arith))
+        ∙ ap value (step-tall F (laws q m h) (e g) (length Q - u) (drop u Q′)
+        (λ s j k. cell-length F (laws q m h) (drop u Q′) s j (omega (arith, length-drop u Q′, length-map Q (map e)))) t i (omega arith))
         ∙ value-hom q m h .nil
 
     pub number-below : (u t i : ℕ) → cell (ops q) (step (ops q) g (drop u Q)) t i < q

@@ -1,5 +1,5 @@
 -- The roots written one after the other, and the test at the end of a beginning.
-use mathlib.Core.Bool.{Bool, true, false, cond}
+use mathlib.Core.Bool.{Bool, true, false, cond, not}
 use mathlib.Core.Path.{_≡_, refl, sym, ap, ap₂, _∙_}
 use mathlib.Core.Logic.{_↔_, ⊎-elim}
 use mathlib.Core.List.{List, [], _∷_, _++_, map, flatten, append-nil, append-assoc}
@@ -19,8 +19,11 @@ use Rattle.algebra.specs.Search.{found}
 use Rattle.buffers.proofs.Change.{lt-or-ge}
 use Rattle.buffers.proofs.Part.{len-mid}
 use Rattle.buffers.proofs.Rows.{row-end}
+use borrow.Author.Tests.{not-true, not-false}
+use Rattle.search.specs.declared.Sizes.{Sizes}
+use Rattle.search.specs.declared.Tally.{Tally}
 use Rattle.search.specs.Slot.{run, Below, curve}
-use Rattle.search.specs.Search.{listed, Written, Zeros}
+use Rattle.search.specs.Search.{listed, Written, Zeros, Ready}
 use Rattle.search.proofs.Heads.{run-at}
 
 pub written-none : (a : ℕ) (d : List ℕ) → Written [] a d d
@@ -109,12 +112,24 @@ module _ (q : ℕ) where
 
     tested : (r : Bool) → Zeros a w d r → zeros (ops q) (take w s) ≡ r
     tested true z = same-test _ true (λ t. tt) (λ t. tells .1 (λ j k. row-at j k ∙ z .zero refl j (omega (arith, row-length))))
-    tested false z = same-test _ false (λ t. z .some refl (λ j k. sym (row-at j (omega (arith, row-length))) ∙ tells .0 t j (omega (arith, row-length)))) (λ t. absurd t)
+    tested false z = same-test _ false
+        (λ t. z .some refl (λ j k. sym (row-at j (omega (arith, row-length))) ∙ tells .0 t j (omega (arith, row-length)))) (λ t. absurd t)
 
     first-row : getD (rows w (l + 1) s) 0 [] ≡ take w s
     unfolding rows
     first-row = rw (add-one l) refl
 
-    pub found-end : (r : Bool) → Zeros a w d r → found (ops q) 0 (curve w l a d) ≡ cond r ([] ∷ []) []
+    found-end : (r : Bool) → Zeros a w d r → found (ops q) 0 (curve w l a d) ≡ cond r ([] ∷ []) []
     unfolding found
     found-end r z = ap (λ (b : Bool). cond b ([] ∷ []) []) (ap (zeros (ops q)) first-row ∙ tested r z)
+
+-- the messages found where no symbol is left: by what the test of the row at y^0 says, one or none
+module _ {h : Sizes} {a n : ℕ} {d b z : List ℕ} {t : Tally} {fs : List (List ℕ)} {r : Bool} (ready : Ready h 0 a d b z t fs n) (told : Zeros a (h .w) d r) where
+  ends : (x : Bool) → r ≡ x → found (ops (h .q)) 0 (curve (h .w) (h .l) a d) ≡ cond x ([] ∷ []) []
+  ends x e = found-end (h .q) (h .w) (h .l) a d (ready .low) (omega (arith, ready .slots)) r told ∙ ap (λ (y : Bool). cond y ([] ∷ []) []) e
+
+  pub found-one : not r ≡ false → found (ops (h .q)) 0 (curve (h .w) (h .l) a d) ≡ [] ∷ []
+  found-one e = ends true (not-false r e)
+
+  pub found-none : not r ≡ true → found (ops (h .q)) 0 (curve (h .w) (h .l) a d) ≡ []
+  found-none e = ends false (not-true r e)

@@ -31,7 +31,7 @@ use Rattle.buffers.proofs.Part.{len-mid, put-mid}
 use Rattle.search.specs.declared.Sizes.{Sizes}
 use Rattle.search.specs.declared.Tally.{Tally}
 use Rattle.search.specs.Slot.{run, curve, Stripped}
-use Rattle.search.specs.Search.{listed, Asked, Given, Roots, Ready, Searched, roots-of, tried-of, none}
+use Rattle.search.specs.Search.{found-at, tried-at, listed, Asked, Given, Roots, Ready, Searched, roots-of, tried-of, none}
 use Rattle.search.proofs.Heads.{run-at, run-front}
 use Rattle.search.proofs.Numbers.{rows-values}
 use Rattle.search.proofs.Next.{strip-found, strip-tried, strip-within, within-values}
@@ -45,7 +45,8 @@ listed-empty [] = refl
 listed-empty (f ∷ fs) = ap (_++_ f) (listed-empty fs)
 
 -- what the theorems say of the curve c
-module _ (q : ℕ) (m : T (modulus q)) (k w l : ℕ) (c : List ℕ) (o : 0 < w) (long : length c ≡ (l + 1) * w) (low : (j : ℕ) → j < (l + 1) * w → getD c j 0 < q) where
+module _ (q : ℕ) (m : T (modulus q)) (k w l : ℕ) (c : List ℕ) (o : 0 < w) (long : length c ≡ (l + 1) * w)
+    (low : (j : ℕ) → j < (l + 1) * w → getD c j 0 < q) where
   abbrev h : 1 < q
   h = modulus-two q m
 
@@ -91,12 +92,20 @@ module _ (q : ℕ) (m : T (modulus q)) (k w l : ℕ) (c : List ℕ) (o : 0 < w) 
   inside t = within-values q m w (l + 1) (k - 1) c low (rows-within F (laws q m h) k w l (map e c) (rw (← weighted-hom (ops q) F e (elt-hom q m h) k w l c) t))
 
 -- d₁ is the buffer with the curve in its spare, d₂ with the curve stripped behind it
-module _ (q k w l : ℕ) (c d z : List ℕ) (t : Tally) (asked : Asked q k w l c d z t) (d₁ d₂ : List ℕ) (len : length d₁ ≡ length d) (copied : (j : ℕ) → j < (l + 1) * w → getD d₁ j 0 ≡ getD c j 0) (st : Stripped w l ((l + 1) * w) d₁ d₂) where
+module _ {q k w l : ℕ} {c d z : List ℕ} {t : Tally} (asked : Asked q k w l c d z t) {d₁ d₂ : List ℕ} (st : Stripped w l ((l + 1) * w) d₁ d₂)
+    (len : length d₁ ≡ length d) (copied : (j : ℕ) → j < (l + 1) * w → getD d₁ j 0 ≡ getD c j 0) where
   abbrev S : ℕ
   S = (l + 1) * w
 
   abbrev sizes : Sizes
   sizes = record { q = q; k = k; w = w; l = l }
+
+  -- what is found from the curve stripped, and how many beginnings are tried
+  abbrev fs : List (List ℕ)
+  fs = found-at sizes k S d₂
+
+  abbrev ns : ℕ
+  ns = tried-at sizes k S d₂
 
   slots : S + (k * S + S) ≤ length d
   slots = omega (arith, asked .slots, add-mul k 2 S)
@@ -115,12 +124,12 @@ module _ (q k w l : ℕ) (c d z : List ℕ) (t : Tally) (asked : Asked q k w l c
   low-r : (j : ℕ) → j < S → getD (run S S d₂) j 0 < q
   low-r = strip-low w l S d₁ d₂ st q (omega (arith, modulus-two q (asked .field))) (asked .wide) low-p
 
-  is-found : found (ops q) k (curve w l S d₂) ≡ roots-of q k w l c
+  is-found : fs ≡ roots-of q k w l c
   is-found =
       strip-found q (asked .field) w (l + 1) (run 0 S d₁) (run S S d₂) low-p low-r (shifted w l S d₁ d₂ st) k
       ∙ ap (λ (p : List ℕ). found (ops q) k (stripped (ops q) (rows w (l + 1) p))) spare ∙ found-all q (asked .field) k w l c (asked .wide) (asked .long) low
 
-  is-tried : tried (ops q) k (curve w l S d₂) ≡ tried-of q k w l c
+  is-tried : ns ≡ tried-of q k w l c
   is-tried =
       strip-tried q (asked .field) w (l + 1) (run 0 S d₁) (run S S d₂) low-p low-r (shifted w l S d₁ d₂ st) k
       ∙ ap (λ (p : List ℕ). tried (ops q) k (stripped (ops q) (rows w (l + 1) p))) spare ∙ tried-all q (asked .field) k w l c (asked .wide) (asked .long) low
@@ -131,41 +140,51 @@ module _ (q k w l : ℕ) (c d z : List ℕ) (t : Tally) (asked : Asked q k w l c
   few-tried : tried-of q k w l c ≤ 1 + l * k
   few-tried = bound q (asked .field) k w l c (asked .wide) (asked .long) low (asked .live)
 
-  pub started : (b : List ℕ) → k ≤ length b → Ready sizes k S d₂ b z t (found (ops q) k (curve w l S d₂)) (tried (ops q) k (curve w l S d₂))
+  pub started : (b : List ℕ) → k ≤ length b → Ready sizes k S d₂ b z t fs ns
   started b fits = record {
     shaped = record { field = asked .field; symbols = asked .symbols; wide = asked .wide; tall = asked .tall };
     placed = omega arith;
     spare = omega arith;
     slots = omega (arith, slots, len, st .moved .len);
     low = λ j m. rw (← run-at S S d₂ j m) (low-r j m);
-    within = strip-within q (asked .field) w (l + 1) (run 0 S d₁) (run S S d₂) low-p low-r (shifted w l S d₁ d₂ st) (k - 1) (rw spare (inside q (asked .field) k w l c (asked .wide) (asked .long) low (asked .fits)));
+    within = strip-within q (asked .field) w (l + 1) (run 0 S d₁) (run S S d₂) low-p low-r (shifted w l S d₁ d₂ st) (k - 1)
+        (rw spare (inside q (asked .field) k w l c (asked .wide) (asked .long) low (asked .fits)));
     beginning = fits;
-    room = omega (arith, asked .room, mul-le-mul-right {m = t .found + length (found (ops q) k (curve w l S d₂))} {n = t .found + l} k (omega (arith, ap length is-found, few-roots)));
+    room = omega (
+      arith,
+      asked .room,
+      mul-le-mul-right {m = t .found + length fs} {n = t .found + l} k (omega (arith, ap length is-found, few-roots)),
+    );
     count = omega (arith, asked .count, is-tried, few-tried);
   }
 
-  pub given : {d₃ b b′ z′ : List ℕ} {r : Tally} → Searched sizes k S d₂ b z t (found (ops q) k (curve w l S d₂)) (tried (ops q) k (curve w l S d₂)) d₃ b′ z′ r → Given q k w l c d z t d₃ z′ r
+  pub given : {d₃ b b′ z′ : List ℕ} {r : Tally} →
+      Searched sizes k S d₂ b z t fs ns d₃ b′ z′ r → Given q k w l c d z t d₃ z′ r
   given {d₃} {b} {b′} {z′} {r} s = record {
     found = omega (arith, s .found, ap length is-found);
     tried = omega (arith, s .tried, is-tried);
-    list = written-to (listed (take (k - k) b) (found (ops q) k (curve w l S d₂))) (flatten (roots-of q k w l c)) (s .list)
+    list = written-to (listed (take (k - k) b) fs) (flatten (roots-of q k w l c)) (s .list)
         (ap₂ (λ (n : ℕ) (fs : List (List ℕ)). listed (take n b) fs) (sub-self k) is-found ∙ listed-empty (roots-of q k w l c));
-    long = ap length (sym (ap flatten is-found ∙ refl) ∙ sym (listed-empty (found (ops q) k (curve w l S d₂)))) ∙ long q k (curve w l S d₂) [] ∙ ap₂ (λ (a b : ℕ). a * b) (ap length is-found) (zero-add k);
+    long = ap length (sym (ap flatten is-found) ∙ sym (listed-empty fs)) ∙ long q k (curve w l S d₂) []
+        ∙ ap₂ (λ (a b : ℕ). a * b) (ap length is-found) (zero-add k);
     few = few-roots;
     bound = few-tried;
     slots = s .slots ∙ st .moved .len ∙ len;
   }
 
 -- the curve copied to the front of a buffer
-pub copied-front : (S n : ℕ) (d ys c : List ℕ) → n ≡ S → S ≤ length d → length c ≡ S → ys ≡ c → (length (putMid 0 n d ys) ≡ length d) × ((j : ℕ) → j < S → getD (putMid 0 n d ys) j 0 ≡ getD c j 0)
+copied-front : (S n : ℕ) (d ys c : List ℕ) → n ≡ S → S ≤ length d → length c ≡ S → ys ≡ c →
+    (length (putMid 0 n d ys) ≡ length d) × ((j : ℕ) → j < S → getD (putMid 0 n d ys) j 0 ≡ getD c j 0)
 copied-front S n d ys c e fits long same =
     let len : length ys ≡ n = ap length same ∙ long ∙ sym e in (
       same-len-mid 0 n d ys (len ∙ sym (len-mid 0 n d (omega arith))),
-      λ j l. ap (λ (i : ℕ). getD (putMid 0 n d ys) i 0) (sym (zero-add j)) ∙ put-mid 0 n d (omega arith) ys len j (omega arith) ∙ ap (λ (x : List ℕ). getD x j 0) same,
+      λ j l. ap (λ (i : ℕ). getD (putMid 0 n d ys) i 0) (sym (zero-add j)) ∙ put-mid 0 n d (omega arith) ys len j (omega arith)
+          ∙ ap (λ (x : List ℕ). getD x j 0) same,
     )
 
 -- what is asked of a curve is asked of its copy in the spare
-pub asked-spare : (q k w l : ℕ) (c d d₁ z : List ℕ) (t : Tally) → Asked q k w l c d z t → length d₁ ≡ length d → ((j : ℕ) → j < (l + 1) * w → getD d₁ j 0 ≡ getD c j 0) → (run 0 ((l + 1) * w) d₁ ≡ c) × Asked q k w l (run 0 ((l + 1) * w) d₁) d₁ z t
+asked-spare : (q k w l : ℕ) (c d d₁ z : List ℕ) (t : Tally) → Asked q k w l c d z t → length d₁ ≡ length d →
+    ((j : ℕ) → j < (l + 1) * w → getD d₁ j 0 ≡ getD c j 0) → (run 0 ((l + 1) * w) d₁ ≡ c) × Asked q k w l (run 0 ((l + 1) * w) d₁) d₁ z t
 asked-spare q k w l c d d₁ z t h len copied = (
   same,
   rw same record {
@@ -192,17 +211,30 @@ asked-spare q k w l c d d₁ z t h len copied = (
         let n : j < (l + 1) * w = omega (arith, len-mid 0 ((l + 1) * w) d₁ fits) in
         run-front ((l + 1) * w) d₁ j n ∙ copied j n
 
+-- ys, which is the curve, stored over the spare
+pub copied-spare : {q k w l : ℕ} {c d z : List ℕ} {t : Tally} (ys : List ℕ) → Asked q k w l c d z t → ys ≡ c →
+    (length (putMid 0 ((l + 1) * w - 0) d ys) ≡ length d) × (run 0 ((l + 1) * w) (putMid 0 ((l + 1) * w - 0) d ys) ≡ c)
+    × Asked q k w l (run 0 ((l + 1) * w) (putMid 0 ((l + 1) * w - 0) d ys)) (putMid 0 ((l + 1) * w - 0) d ys) z t
+copied-spare {q} {k} {w} {l} {c} {d} {z} {t} ys h same =
+    let S = (l + 1) * w in
+    let f = copied-front S (S - 0) d ys c (omega arith) (omega (arith, h .slots, add-mul k 2 S)) (h .long) same in
+    let a = asked-spare q k w l c d (putMid 0 (S - 0) d ys) z t h (f .0) (f .1) in
+    (f .0, a .0, a .1)
+
 -- the roots from the front on
-pub roots-front : (q k w l : ℕ) (c d d₁ z d₂ z′ : List ℕ) (r : Tally) → Asked q k w l c d z none → length d₁ ≡ length d → Given q k w l c d₁ z none d₂ z′ r → Roots q k w l c d z d₂ z′ r
+pub roots-front : {q k w l : ℕ} {c d d₁ z d₂ z′ : List ℕ} {r : Tally} → Asked q k w l c d z none → length d₁ ≡ length d →
+    Given q k w l c d₁ z none d₂ z′ r → Roots q k w l c d z d₂ z′ r
 unfolding over
-roots-front q k w l c d d₁ z d₂ z′ r a len g = record {
+roots-front {q} {k} {w} {l} {c} {d} {d₁} {z} {d₂} {z′} {r} a len g = record {
   found = omega (arith, g .found);
   tried = omega (arith, g .tried);
-  list = changed-list (flatten (roots-of q k w l c)) (front-written (g .list)) refl (omega (arith, g .long, a .room, mul-le-mul-right {m = length (roots-of q k w l c)} {n = 0 + l} k (omega (arith, g .few)))) (λ j m. refl);
+  list = changed-list (flatten (roots-of q k w l c)) (front-written (g .list)) refl
+      (omega (arith, g .long, a .room, mul-le-mul-right {m = length (roots-of q k w l c)} {n = 0 + l} k (omega (arith, g .few)))) (λ j m. refl);
   few = g .few;
   bound = g .bound;
   slots = g .slots ∙ len;
 }
   where
-    front-written : Changed (λ j. getD (flatten (roots-of q k w l c)) j 0) (0 * k) (length (flatten (roots-of q k w l c))) z z′ → Changed (λ j. getD (flatten (roots-of q k w l c)) j 0) 0 (length (flatten (roots-of q k w l c))) z z′
+    front-written : Changed (λ j. getD (flatten (roots-of q k w l c)) j 0) (0 * k) (length (flatten (roots-of q k w l c))) z z′ →
+        Changed (λ j. getD (flatten (roots-of q k w l c)) j 0) 0 (length (flatten (roots-of q k w l c))) z z′
     front-written h = let e : 0 * k ≡ 0 = omega arith in rw e at h

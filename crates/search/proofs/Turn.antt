@@ -3,7 +3,7 @@ use mathlib.Core.Bool.{true, false}
 use mathlib.Core.Path.{_≡_, refl, sym, ap, _∙_}
 use mathlib.Core.List.{List, [], _∷_, _++_, map}
 use Prim.Native.Nat.{ℕ, zero, suc, _+_, _-_, _*_, _<_, _≤_}
-use native.Mathlib.Nat.{suc-mul, add-mul, mul-le-mul-right, sub-zero}
+use native.Mathlib.Nat.{suc-mul, add-mul, mul-le-mul-right, sub-zero, pos-of-ne-zero}
 use native.Mathlib.Numerals.{sub-one}
 use native.Mathlib.Omega.{arith}
 use lib.ListN.{length, getD, set, take, length-set, length-append, length-map, length-take}
@@ -15,7 +15,7 @@ use Rattle.buffers.proofs.Part.{len-mid}
 use Rattle.search.specs.declared.Sizes.{Sizes}
 use Rattle.search.specs.declared.Tally.{Tally}
 use Rattle.search.specs.Slot.{run, Below, curve, Nexted}
-use Rattle.search.specs.Search.{size, listed, Written, Ready, Searched}
+use Rattle.search.specs.Search.{size, found-at, tried-at, listed, Written, Ready, Searched}
 use Rattle.search.proofs.Heads.{run-at}
 use Rattle.search.proofs.Roots.{listed-none, listed-append, listed-more, written-none, written-append, written-to}
 use Rattle.search.proofs.Walked.{walked, passed, walked-none, passed-none, walked-more, passed-more, walked-most, passed-most, walked-long, hit, hit-tried, miss, miss-tried, found-walked, tried-passed}
@@ -25,11 +25,13 @@ peel zero s l = absurd (omega arith)
 peel (suc n) s l = rw (sub-one (suc n)) (suc-mul n s)
 
 -- the same list of messages and the same count, by other names
-pub searched-to : {h : Sizes} {left a n m : ℕ} {d b z d′ b′ z′ : List ℕ} {t r : Tally} {fs gs : List (List ℕ)} → Searched h left a d b z t fs n d′ b′ z′ r → fs ≡ gs → n ≡ m → Searched h left a d b z t gs m d′ b′ z′ r
+pub searched-to : {h : Sizes} {left a n m : ℕ} {d b z d′ b′ z′ : List ℕ} {t r : Tally} {fs gs : List (List ℕ)} →
+    Searched h left a d b z t fs n d′ b′ z′ r → fs ≡ gs → n ≡ m → Searched h left a d b z t gs m d′ b′ z′ r
 searched-to h e f = rw (e, f) at h
 
 -- and the same ends
-pub searched-at : {h : Sizes} {left a n : ℕ} {d b z d′ b′ z′ d″ b″ z″ : List ℕ} {t r r′ : Tally} {fs : List (List ℕ)} → Searched h left a d b z t fs n d′ b′ z′ r → d″ ≡ d′ → b″ ≡ b′ → z″ ≡ z′ → r′ ≡ r → Searched h left a d b z t fs n d″ b″ z″ r′
+pub searched-at : {h : Sizes} {left a n : ℕ} {d b z d′ b′ z′ d″ b″ z″ : List ℕ} {t r r′ : Tally} {fs : List (List ℕ)} →
+    Searched h left a d b z t fs n d′ b′ z′ r → d″ ≡ d′ → b″ ≡ b′ → z″ ≡ z′ → r′ ≡ r → Searched h left a d b z t fs n d″ b″ z″ r′
 searched-at h e f g k = rw (e, f, g, k) h
 
 module _ (h : Sizes) (left a : ℕ) (d b z : List ℕ) (t : Tally) where
@@ -66,24 +68,23 @@ module _ (h : Sizes) (left a : ℕ) (d b z : List ℕ) (t : Tally) where
     placed = λ j l. refl;
   }
 
-  module _ (some : 0 < left) (ready : Ready h left a d b z t (found (ops q) left Q) (tried (ops q) left Q - 1)) (g : ℕ) (gq : g < q) (d₁ b₁ z₁ : List ℕ) (all : Tally) (seen : Seen g d₁ b₁ z₁ all) where
-    slots : a + S + S ≤ length d₁
-    slots = omega (arith, ready .slots, peel left S some, seen .slots)
+  module _ (some : 0 < left) (ready : Ready h left a d b z t (found-at h left a d) (tried-at h left a d - 1)) (g : ℕ) (gq : g < q)
+      {d₁ b₁ z₁ : List ℕ} {all : Tally} (seen : Seen g d₁ b₁ z₁ all) where
+    pub room-next : a + S + S ≤ length d₁
+    room-next = omega (arith, ready .slots, peel left S some, seen .slots)
 
     -- the curve still stands in its slot
     pub same-curve : curve (h .w) (h .l) a d₁ ≡ Q
-    same-curve = ap (rows (h .w) (h .l + 1)) (ext-getD 0 (run a S d₁) (run a S d) (len-mid a S d₁ (omega (arith, slots)) ∙ sym (len-mid a S d (omega (arith, slots, seen .slots)))) go)
+    same-curve = ap (rows (h .w) (h .l + 1))
+        (ext-getD 0 (run a S d₁) (run a S d) (len-mid a S d₁ (omega (arith, room-next)) ∙ sym (len-mid a S d (omega (arith, room-next, seen .slots)))) go)
       where
         go : (j : ℕ) → j < length (run a S d₁) → getD (run a S d₁) j 0 ≡ getD (run a S d) j 0
         go j l =
-            let m : j < S = omega (arith, len-mid a S d₁ (omega (arith, slots))) in
+            let m : j < S = omega (arith, len-mid a S d₁ (omega (arith, room-next))) in
             run-at a S d₁ j m ∙ seen .kept (a + j) (omega (arith, ready .spare)) (omega arith) ∙ sym (run-at a S d j m)
 
     pub same-low : Below q a S d₁
     same-low j l = rw (seen .kept (a + j) (omega (arith, ready .spare)) (omega arith)) (ready .low j l)
-
-    pub room-next : a + S + S ≤ length d₁
-    room-next = slots
 
     -- a symbol that may not follow
     pub seen-miss : follows (ops q) (curve (h .w) (h .l) a d₁) g ≡ false → Seen (g + 1) d₁ b₁ z₁ all
@@ -92,7 +93,7 @@ module _ (h : Sizes) (left a : ℕ) (d b z : List ℕ) (t : Tally) where
         searched-to seen (sym (miss q (left - 1) Q g f)) (sym (miss-tried q (left - 1) Q g f))
 
     -- a symbol that may
-    module _ (e : follows (ops q) (curve (h .w) (h .l) a d₁) g ≡ true) (d₂ : List ℕ) (nx : Nexted q g (h .w) (h .l) a d₁ d₂) where
+    module _ (e : follows (ops q) (curve (h .w) (h .l) a d₁) g ≡ true) {d₂ : List ℕ} (nx : Nexted q g (h .w) (h .l) a d₁ d₂) where
       abbrev place : ℕ
       place = k - left
 
@@ -106,10 +107,10 @@ module _ (h : Sizes) (left a : ℕ) (d b z : List ℕ) (t : Tally) where
       inside = rw same-curve (ready .within)
 
       abbrev found′ : List (List ℕ)
-      found′ = found (ops q) (left - 1) (curve (h .w) (h .l) (a + S) d₂)
+      found′ = found-at h (left - 1) (a + S) d₂
 
       abbrev tried′ : ℕ
-      tried′ = tried (ops q) (left - 1) (curve (h .w) (h .l) (a + S) d₂)
+      tried′ = tried-at h (left - 1) (a + S) d₂
 
       found-is : found′ ≡ found (ops q) (left - 1) (next (ops q) g Q)
       found-is = nx .found (left - 1) inside ∙ ap (λ (P : List (List ℕ)). found (ops q) (left - 1) (next (ops q) g P)) same-curve
@@ -141,7 +142,12 @@ module _ (h : Sizes) (left a : ℕ) (d b z : List ℕ) (t : Tally) where
         low = nx .low;
         within = nx .within (left - 1) inside;
         beginning = omega (arith, length-set b₁ place g, seen .beginning, ready .beginning);
-        room = omega (arith, seen .list .len, ready .room, mul-le-mul-right {m = all .found + length found′} {n = t .found + length (found (ops q) left Q)} k (omega (arith, seen .found, more-length, few)));
+        room = omega (
+          arith,
+          seen .list .len,
+          ready .room,
+          mul-le-mul-right {m = all .found + length found′} {n = t .found + length (found (ops q) left Q)} k (omega (arith, seen .found, more-length, few)),
+        );
         count = omega (arith, seen .tried, more-tried, few-tried, ready .count);
       }
 
@@ -152,7 +158,8 @@ module _ (h : Sizes) (left a : ℕ) (d b z : List ℕ) (t : Tally) where
       begun : take (k - (left - 1)) b₂ ≡ p ++ (g ∷ [])
       begun =
           let n : k - (left - 1) ≡ suc place = omega (arith, ready .placed) in
-          ap (λ (n : ℕ). take n b₂) n ∙ take-suc-set b₁ place g (omega (arith, ready .placed, ready .beginning, seen .beginning)) ∙ ap (λ (x : List ℕ). x ++ (g ∷ [])) same
+          ap (λ (n : ℕ). take n b₂) n ∙ take-suc-set b₁ place g (omega (arith, ready .placed, ready .beginning, seen .beginning))
+          ∙ ap (λ (x : List ℕ). x ++ (g ∷ [])) same
         where
           fits : place ≤ length b
           fits = omega (arith, ready .beginning)
@@ -166,28 +173,35 @@ module _ (h : Sizes) (left a : ℕ) (d b z : List ℕ) (t : Tally) where
           let n : length p + suc (left - 1) ≡ k = omega (arith, length-take-le place b (omega (arith, ready .beginning)), ready .placed) in
           walked-long q (left - 1) Q p g ∙ ap (λ (n : ℕ). length (fs g) * n) n
 
-      pub leave : (d₃ b₃ z₃ : List ℕ) (r : Tally) → Searched h (left - 1) (a + S) d₂ b₂ z₁ all found′ tried′ d₃ b₃ z₃ r → Seen (g + 1) d₃ b₃ z₃ r
-      leave d₃ b₃ z₃ r v = record {
+      pub leave : {d₃ b₃ z₃ : List ℕ} {r : Tally} → Searched h (left - 1) (a + S) d₂ b₂ z₁ all found′ tried′ d₃ b₃ z₃ r → Seen (g + 1) d₃ b₃ z₃ r
+      leave v = record {
         found = omega (arith, v .found, seen .found, more-length);
         tried = omega (arith, v .tried, seen .tried, more-tried);
         list = written-to (listed p (fs g) ++ listed (take (k - (left - 1)) b₂) found′) _
             (written-append (listed p (fs g)) (listed (take (k - (left - 1)) b₂) found′) (seen .list) (v .list)
             (ap (λ (n : ℕ). n * k) (seen .found) ∙ add-mul (t .found) (length (fs g)) k ∙ ap (_+_ (t .found * k)) (sym long)))
-            (ap (_++_ (listed p (fs g))) (ap (λ (x : List ℕ). listed x found′) begun ∙ listed-more p g found′) ∙ sym (ap (listed p) more ∙ listed-append p (fs g) (map (_∷_ g) found′)));
+            (ap (_++_ (listed p (fs g))) (ap (λ (x : List ℕ). listed x found′) begun ∙ listed-more p g found′)
+            ∙ sym (ap (listed p) more ∙ listed-append p (fs g) (map (_∷_ g) found′)));
         slots = v .slots ∙ nx .len ∙ seen .slots;
         kept = λ j l m. v .kept j l (omega arith) ∙ nx .kept j l m ∙ seen .kept j l m;
         beginning = v .beginning ∙ length-set b₁ place g ∙ seen .beginning;
         placed = λ j l. v .placed j (omega (arith, ready .placed)) ∙ getD-set-other b₁ place j g 0 (λ u. omega arith) ∙ seen .placed j l;
       }
 
+-- with symbols left, the beginning visited is tried
+pub tried-some : (h : Sizes) (left a : ℕ) (d : List ℕ) → ¬ (left ≡ 0) → 0 < tried-at h left a d
+tried-some h left a d n = omega (arith, tried-passed (h .q) left (curve (h .w) (h .l) a d) (pos-of-ne-zero n))
+
 -- with no symbol left, one beginning is tried
-pub ready-end : {h : Sizes} {left a : ℕ} {d b z : List ℕ} {t : Tally} → left ≡ 0 → Ready h left a d b z t (found (ops (h .q)) left (curve (h .w) (h .l) a d)) (tried (ops (h .q)) left (curve (h .w) (h .l) a d))
-    → Ready h 0 a d b z t (found (ops (h .q)) 0 (curve (h .w) (h .l) a d)) 1
+pub ready-end : {h : Sizes} {left a : ℕ} {d b z : List ℕ} {t : Tally} → left ≡ 0 →
+    Ready h left a d b z t (found-at h left a d) (tried-at h left a d)
+    → Ready h 0 a d b z t (found-at h 0 a d) 1
 unfolding tried
 ready-end e r = rw e at r
 
 -- the visit has counted one, the walk counts the rest
-pub ready-walk : {h : Sizes} {left a : ℕ} {d b z : List ℕ} {t : Tally} (fs : List (List ℕ)) (n : ℕ) → 0 < n → Ready h left a d b z t fs n → Ready h left a d b z (record { found = t .found; tried = t .tried + 1 }) fs (n - 1)
+pub ready-walk : {h : Sizes} {left a : ℕ} {d b z : List ℕ} {t : Tally} (fs : List (List ℕ)) (n : ℕ) → 0 < n → Ready h left a d b z t fs n →
+    Ready h left a d b z (record { found = t .found; tried = t .tried + 1 }) fs (n - 1)
 ready-walk fs n o r = record {
   shaped = r .shaped;
   placed = r .placed;
@@ -201,9 +215,9 @@ ready-walk fs n o r = record {
 }
 
 pub searched-end : {h : Sizes} {left a : ℕ} {d b z z′ : List ℕ} {t r : Tally} → left ≡ 0 →
-    (r .found ≡ t .found + length (found (ops (h .q)) 0 (curve (h .w) (h .l) a d))) × (r .tried ≡ t .tried + 1)
-    × Written (listed (take (h .k) b) (found (ops (h .q)) 0 (curve (h .w) (h .l) a d))) (t .found * h .k) z z′
-    → Searched h left a d b z t (found (ops (h .q)) left (curve (h .w) (h .l) a d)) (tried (ops (h .q)) left (curve (h .w) (h .l) a d)) d b z′ r
+    (r .found ≡ t .found + length (found-at h 0 a d)) × (r .tried ≡ t .tried + 1)
+    × Written (listed (take (h .k) b) (found-at h 0 a d)) (t .found * h .k) z z′
+    → Searched h left a d b z t (found-at h left a d) (tried-at h left a d) d b z′ r
 unfolding tried
 searched-end {h} {left} {a} {d} {b} {z} {z′} {t} {r} e s = rw e record {
   found = s .0;
@@ -217,4 +231,5 @@ searched-end {h} {left} {a} {d} {b} {z} {z′} {t} {r} e s = rw e record {
 
 pub searched-visit : {h : Sizes} {left a : ℕ} {d b z d′ b′ z′ : List ℕ} {t r : Tally} (fs : List (List ℕ)) (n : ℕ) → 0 < n →
     Searched h left a d b z (record { found = t .found; tried = t .tried + 1 }) fs (n - 1) d′ b′ z′ r → Searched h left a d b z t fs n d′ b′ z′ r
-searched-visit fs n o s = record { found = s .found; tried = omega (arith, s .tried); list = s .list; slots = s .slots; kept = s .kept; beginning = s .beginning; placed = s .placed }
+searched-visit fs n o s =
+    record { found = s .found; tried = omega (arith, s .tried); list = s .list; slots = s .slots; kept = s .kept; beginning = s .beginning; placed = s .placed }

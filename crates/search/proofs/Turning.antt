@@ -29,7 +29,8 @@ pub carrying-none : (q g w u : ℕ) (d : List ℕ) → Carrying q g w u u d d
 carrying-none q g w u d = record { len = refl; inner = λ t i l m. absurd (omega arith); low = λ k l. refl; high = λ k l. refl }
 
 module _ {q g w u : ℕ} {d e : List ℕ} where
-  pub carrying-more : {e′ : List ℕ} (m a b : ℕ) → u ≤ m → b ≡ m * w → a ≡ b + w → Carrying q g w u m d e → Changed (shifted q g e a b) b w e e′ → Carrying q g w u (m + 1) d e′
+  pub carrying-more : {e′ : List ℕ} (m a b : ℕ) → u ≤ m → b ≡ m * w → a ≡ b + w → Carrying q g w u m d e → Changed (shifted q g e a b) b w e e′ →
+      Carrying q g w u (m + 1) d e′
   carrying-more {e′} m a b um is after h c = record {
     len = c .len ∙ h .len;
     inner = λ t i ut tm l. below-more (λ t. u ≤ t → getD e′ (t * w + i) 0 ≡ shifted q g d (t * w + w) (t * w) i) m
@@ -71,7 +72,8 @@ pub moved-none : (w v b : ℕ) (d : List ℕ) → Moved w 0 v b d d
 moved-none w v b d = record { len = refl; moved = λ t i l. absurd (omega arith); behind = λ t i l. absurd (omega arith); low = λ k l. refl }
 
 -- one more row is moved
-pub moved-more : {w v b : ℕ} {d e e′ : List ℕ} (n : ℕ) → n * w + w ≤ b → v ≤ w → Moved w n v b d e → Changed (cut e (n * w) v w) (b + n * w) w e e′ → Moved w (n + 1) v b d e′
+pub moved-more : {w v b : ℕ} {d e e′ : List ℕ} (n : ℕ) → n * w + w ≤ b → v ≤ w → Moved w n v b d e → Changed (cut e (n * w) v w) (b + n * w) w e e′ →
+    Moved w (n + 1) v b d e′
 moved-more {w} {v} {b} {d} {e} {e′} n nb vw h c = record {
   len = c .len ∙ h .len;
   moved = λ t i tl l. below-more (λ t. getD e′ (b + (t * w + i)) 0 ≡ getD d (t * w + (i + v)) 0) n

@@ -123,17 +123,20 @@ module _ (q : ℕ) where
   abbrev pub Long : ℕ → Type 0
   Long k = (Q : List (List ℕ)) (p : List ℕ) → length (listed p (found (ops q) k Q)) ≡ length (found (ops q) k Q) * (length p + k)
 
-  through-long : (k : ℕ) → Long k → (Q : List (List ℕ)) (p : List ℕ) (g : ℕ) → length (listed p (through q k Q g)) ≡ length (through q k Q g) * (length p + suc k)
+  through-long : (k : ℕ) → Long k → (Q : List (List ℕ)) (p : List ℕ) (g : ℕ) →
+      length (listed p (through q k Q g)) ≡ length (through q k Q g) * (length p + suc k)
   through-long k ih Q p g = go (follows (ops q) Q g)
     where
-      go : (b : Bool) → length (listed p (cond b (map (_∷_ g) (found (ops q) k (next (ops q) g Q))) [])) ≡ length (cond b (map (_∷_ g) (found (ops q) k (next (ops q) g Q))) []) * (length p + suc k)
+      go : (b : Bool) → length (listed p (cond b (map (_∷_ g) (found (ops q) k (next (ops q) g Q))) []))
+          ≡ length (cond b (map (_∷_ g) (found (ops q) k (next (ops q) g Q))) []) * (length p + suc k)
       go true =
           let e : length (p ++ (g ∷ [])) + k ≡ length p + suc k = omega (arith, length-append p (g ∷ [])) in
           ap length (sym (listed-more p g (found (ops q) k (next (ops q) g Q)))) ∙ ih (next (ops q) g Q) (p ++ (g ∷ []))
           ∙ ap₂ (λ (a b : ℕ). a * b) (sym (length-map (found (ops q) k (next (ops q) g Q)) (_∷_ g))) e
       go false = ap length (listed-none p) ∙ omega arith
 
-  walked-long′ : (k : ℕ) → Long k → (Q : List (List ℕ)) (p : List ℕ) (xs : List ℕ) → length (listed p (flatMap (through q k Q) xs)) ≡ length (flatMap (through q k Q) xs) * (length p + suc k)
+  walked-long′ : (k : ℕ) → Long k → (Q : List (List ℕ)) (p : List ℕ) (xs : List ℕ) →
+      length (listed p (flatMap (through q k Q) xs)) ≡ length (flatMap (through q k Q) xs) * (length p + suc k)
   unfolding flatMap
   walked-long′ k ih Q p [] = ap length (listed-none p) ∙ omega arith
   walked-long′ k ih Q p (g ∷ xs) =

@@ -10,7 +10,7 @@ use Rattle.rules.specs.Curve.{weighted}
 use Rattle.rules.specs.Field.{ops, modulus}
 use Rattle.rules.specs.Outcome.{over}
 use Rattle.rules.specs.Search.{rows, beginnings, roots as all-roots}
-use Rattle.algebra.specs.Search.{Within}
+use Rattle.algebra.specs.Search.{Within, found, tried}
 use Rattle.buffers.specs.Change.{Changed}
 use Rattle.search.specs.declared.Sizes.{Sizes}
 use Rattle.search.specs.declared.Tally.{Tally}
@@ -19,6 +19,14 @@ use Rattle.search.specs.Slot.{run, Below, curve}
 -- the numbers of a slot
 abbrev pub size : Sizes → ℕ
 size h = (h .l + 1) * h .w
+
+-- what goes on from the curve in the slot at a to a root, with `left` symbols to place
+abbrev pub found-at : Sizes → ℕ → ℕ → List ℕ → List (List ℕ)
+found-at h left a work = found (ops (h .q)) left (curve (h .w) (h .l) a work)
+
+-- how many beginnings are tried from there on, the one there counted
+abbrev pub tried-at : Sizes → ℕ → ℕ → List ℕ → ℕ
+tried-at h left a work = tried (ops (h .q)) left (curve (h .w) (h .l) a work)
 
 -- the messages that begin with p and go on with one of fs, one after the other
 unfoldable pub listed : List ℕ → List (List ℕ) → List ℕ
@@ -40,7 +48,8 @@ pub record Shaped (h : Sizes) : Type 0 where
   pub wide : 0 < h .w
   pub tall : h .l ≤ 24
 
--- With `left` symbols to place, the slot at a holds a curve from which the messages fs are found and n beginnings are tried: there is room for its slots and the roots, and the counts fit.
+-- With `left` symbols to place, the slot at a holds a curve from which the messages fs are found and n beginnings are tried:
+-- there is room for its slots and the roots, and the counts fit.
 pub record Ready (h : Sizes) (left a : ℕ) (work begun roots : List ℕ) (t : Tally) (fs : List (List ℕ)) (n : ℕ) : Type 0 where
   pub shaped : Shaped h
   pub placed : left ≤ h .k
@@ -52,8 +61,10 @@ pub record Ready (h : Sizes) (left a : ℕ) (work begun roots : List ℕ) (t : T
   pub room : (t .found + length fs) * h .k ≤ length roots
   pub count : t .tried + n < 2 ^ 64
 
--- The tally counts fs and n more; the roots stand behind those found before. The slots up to the one at a stay, but for the spare, and so do the symbols placed.
-pub record Searched (h : Sizes) (left a : ℕ) (work begun roots : List ℕ) (t : Tally) (fs : List (List ℕ)) (n : ℕ) (work′ begun′ roots′ : List ℕ) (r : Tally) : Type 0 where
+-- The tally counts fs and n more; the roots stand behind those found before.
+-- The slots up to the one at a stay, but for the spare, and so do the symbols placed.
+pub record Searched (h : Sizes) (left a : ℕ) (work begun roots : List ℕ) (t : Tally) (fs : List (List ℕ)) (n : ℕ)
+    (work′ begun′ roots′ : List ℕ) (r : Tally) : Type 0 where
   pub found : r .found ≡ t .found + length fs
   pub tried : r .tried ≡ t .tried + n
   pub list : Written (listed (take (h .k - left) begun) fs) (t .found * h .k) roots roots′
@@ -62,7 +73,8 @@ pub record Searched (h : Sizes) (left a : ℕ) (work begun roots : List ℕ) (t 
   pub beginning : length begun′ ≡ length begun
   pub placed : (j : ℕ) → j < h .k - left → getD begun′ j 0 ≡ getD begun j 0
 
--- What a search of a curve needs: a field, a curve of its symbols that is not zero and fits its weighted degree, and room for its slots, its roots and its counts.
+-- What a search of a curve needs: a field, a curve of its symbols that is not zero and fits its weighted degree,
+-- and room for its slots, its roots and its counts.
 pub record Asked (q k w l : ℕ) (curve work roots : List ℕ) (t : Tally) : Type 0 where
   pub field : T (modulus q)
   pub symbols : 1 ≤ k

@@ -72,7 +72,8 @@ pub record Stripped (w l b : ℕ) (d e : List ℕ) : Type 0 where
 abbrev pub curve : ℕ → ℕ → ℕ → List ℕ → List (List ℕ)
 curve w l a d = rows w (l + 1) (run a ((l + 1) * w) d)
 
--- The slot after the one at a holds the curve of the beginning longer by g: with k symbols still to place, it is searched as the definition's curve is. The slots up to the one at a stay, but for the spare.
+-- The slot after the one at a holds the curve of the beginning longer by g: with k symbols still to place, it is searched as the definition's curve is.
+-- The slots up to the one at a stay, but for the spare.
 pub record Nexted (q g w l a : ℕ) (d e : List ℕ) : Type 0 where
   pub len : length e ≡ length d
   pub kept : (j : ℕ) → (l + 1) * w ≤ j → j < a + (l + 1) * w → getD e j 0 ≡ getD d j 0

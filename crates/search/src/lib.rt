@@ -1,11 +1,8 @@
 // The root search: visiting a beginning and walking its next symbols call each other; the symbols still to place fall.
 ghost use mathlib.Core.Path.{_≡_};
-ghost use Prim.Native.Nat.{_+_, _-_, _*_, _^_, _<_, _≤_};
-ghost use lib.ListN.{length, getD, take};
-ghost use Rattle.rules.specs.Field.{ops};
-ghost use Rattle.algebra.specs.Search.{found as found-from, tried as tried-from};
-ghost use Rattle.search.specs.Slot.{curve};
-ghost use Rattle.search.specs.Search.{listed, Written, Zeros, Ready, Searched, Asked, Given, Roots, spare, none};
+ghost use Prim.Native.Nat.{_+_, _-_, _*_, _<_, _≤_};
+ghost use lib.ListN.{length, take};
+ghost use Rattle.search.specs.Search.{found-at, tried-at, listed, Written, Zeros, Ready, Searched, Asked, Given, Roots, spare, none};
 use field::runs::copy;
 
 pub mod slot;
@@ -53,8 +50,10 @@ fn put(k: usize, a: usize, begun: &[u16], roots: &mut [u16])
 
 // A beginning of k symbols: it is a root when its curve is zero at y = 0.
 fn settle(h: Sizes, a: usize, work: &[u16], begun: &[u16], roots: &mut [u16], t: Tally) -> Tally
-    requires { ⌜ Ready h 0 a (now work) (now begun) (now roots) t (found-from (ops (h .q)) 0 (curve (h .w) (h .l) a (now work))) 1 ⌝ }
-    ensures { λ r. ⌜ (r .found ≡ t .found + length (found-from (ops (h .q)) 0 (curve (h .w) (h .l) a (now (work .entry))))) × (r .tried ≡ t .tried + 1) × Written (listed (take (h .k) (now (begun .entry))) (found-from (ops (h .q)) 0 (curve (h .w) (h .l) a (now (work .entry))))) (t .found * h .k) (now (roots .entry)) (now (roots .exit)) ⌝ }
+    requires { ⌜ Ready h 0 a (now work) (now begun) (now roots) t (found-at h 0 a (now work)) 1 ⌝ }
+    ensures { λ r. ⌜ (r .found ≡ t .found + length (found-at h 0 a (now (work .entry)))) × (r .tried ≡ t .tried + 1)
+        × Written (listed (take (h .k) (now (begun .entry))) (found-at h 0 a (now (work .entry)))) (t .found * h .k) (now (roots .entry))
+        (now (roots .exit)) ⌝ }
 {
     let w = h.w;
     let k = h.k;
@@ -82,8 +81,9 @@ fn visit(
     roots: &mut [u16],
     t: Tally,
 ) -> Tally
-    requires { ⌜ Ready h left a (now work) (now begun) (now roots) t (found-from (ops (h .q)) left (curve (h .w) (h .l) a (now work))) (tried-from (ops (h .q)) left (curve (h .w) (h .l) a (now work))) ⌝ }
-    ensures { λ r. ⌜ Searched h left a (now (work .entry)) (now (begun .entry)) (now (roots .entry)) t (found-from (ops (h .q)) left (curve (h .w) (h .l) a (now (work .entry)))) (tried-from (ops (h .q)) left (curve (h .w) (h .l) a (now (work .entry)))) (now (work .exit)) (now (begun .exit)) (now (roots .exit)) r ⌝ }
+    requires { ⌜ Ready h left a (now work) (now begun) (now roots) t (found-at h left a (now work)) (tried-at h left a (now work)) ⌝ }
+    ensures { λ r. ⌜ Searched h left a (now (work .entry)) (now (begun .entry)) (now (roots .entry)) t (found-at h left a (now (work .entry)))
+        (tried-at h left a (now (work .entry))) (now (work .exit)) (now (begun .exit)) (now (roots .exit)) r ⌝ }
 {
     if left == 0 {
         return settle(h, a, work, begun, roots, t);
@@ -105,8 +105,9 @@ fn walk(
     roots: &mut [u16],
     t: Tally,
 ) -> Tally
-    requires { ⌜ (0 < left) × Ready h left a (now work) (now begun) (now roots) t (found-from (ops (h .q)) left (curve (h .w) (h .l) a (now work))) (tried-from (ops (h .q)) left (curve (h .w) (h .l) a (now work)) - 1) ⌝ }
-    ensures { λ r. ⌜ Searched h left a (now (work .entry)) (now (begun .entry)) (now (roots .entry)) t (found-from (ops (h .q)) left (curve (h .w) (h .l) a (now (work .entry)))) (tried-from (ops (h .q)) left (curve (h .w) (h .l) a (now (work .entry))) - 1) (now (work .exit)) (now (begun .exit)) (now (roots .exit)) r ⌝ }
+    requires { ⌜ (0 < left) × Ready h left a (now work) (now begun) (now roots) t (found-at h left a (now work)) (tried-at h left a (now work) - 1) ⌝ }
+    ensures { λ r. ⌜ Searched h left a (now (work .entry)) (now (begun .entry)) (now (roots .entry)) t (found-at h left a (now (work .entry)))
+        (tried-at h left a (now (work .entry)) - 1) (now (work .exit)) (now (begun .exit)) (now (roots .exit)) r ⌝ }
 {
     let q = h.q;
     let w = h.w;
@@ -149,7 +150,8 @@ fn tally_into(
     roots: &mut [u16],
 )
     requires { ⌜ Asked q k w l (spare w l (now work)) (now work) (now roots) (now t) ⌝ }
-    ensures { λ _. ⌜ Given q k w l (spare w l (now (work .entry))) (now (work .entry)) (now (roots .entry)) (now (t .entry)) (now (work .exit)) (now (roots .exit)) (now (t .exit)) ⌝ }
+    ensures { λ _. ⌜ Given q k w l (spare w l (now (work .entry))) (now (work .entry)) (now (roots .entry)) (now (t .entry)) (now (work .exit))
+        (now (roots .exit)) (now (t .exit)) ⌝ }
 {
     let r = run(q, k, w, l, work, roots, *t);
     t.found = r.found;

@@ -118,7 +118,8 @@ pub fn follows(q: u16, g: u16, w: usize, l: usize, b: usize, work: &[u16]) -> bo
 
 // Q(x, x·y + g) stripped, for the curve Q in the slot at a, into the slot after it.
 pub fn next(q: u16, g: u16, w: usize, l: usize, a: usize, work: &mut [u16])
-    requires { ⌜ T (modulus q) × (g < q) × (0 < w) × (l ≤ 24) × ((l + 1) * w ≤ a) × (a + (l + 1) * w + (l + 1) * w ≤ length (now work)) × Below q a ((l + 1) * w) (now work) ⌝ }
+    requires { ⌜ T (modulus q) × (g < q) × (0 < w) × (l ≤ 24) × ((l + 1) * w ≤ a) × (a + (l + 1) * w + (l + 1) * w ≤ length (now work))
+        × Below q a ((l + 1) * w) (now work) ⌝ }
     ensures { λ _. ⌜ Nexted q g w l a (now (work .entry)) (now (work .exit)) ⌝ }
 {
     let s = (l + 1) * w;

@@ -62,7 +62,8 @@ module _ (S : Setting) where
       record {
         passed = h;
         agreeing = agree;
-        ℓ-least = le-div-iff-mul-le {k = k - 1} {x = s} {y = W S - 1} one .1 (omega (arith, product s (k - 1 + 1) s (n - τ) (omega arith) (omega arith), mul-add s (k - 1) 1));
+        ℓ-least = le-div-iff-mul-le {k = k - 1} {x = s} {y = W S - 1} one .1
+            (omega (arith, product s (k - 1 + 1) s (n - τ) (omega arith) (omega arith), mul-add s (k - 1) 1));
         W-least = omega arith;
         W-most = omega arith;
         last-row = omega (arith, div-mul-le-self (W S - 1) (k - 1));

@@ -1,20 +1,16 @@
--- The tests of the setting call as facts about its numbers, and back: setting-refusal S is 0 exactly where Passed S.
+-- The tests of the setting call as facts about its numbers: what an accepted setting has passed, and the tests back from the facts.
 use mathlib.Core.Path.{_≡_, refl, sym, _∙_}
 use mathlib.Core.Bool.{Bool, true, false, _&&_, not}
 use mathlib.Core.List.{[], _∷_}
 use Prim.Native.Nat.{ℕ, _≤_}
 use native.Mathlib.Omega.{arith}
 use lib.Dec.{T, leb, ltb, leb→le, nleb→lt, ltb→lt, nltb→le}
-use borrow.Author.Tests.{le-leb, lt-leb, lt-ltb, le-ltb}
+use borrow.Author.Tests.{le-leb, lt-ltb}
 use Rattle.rules.specs.Field.{modulus}
 use Rattle.rules.specs.Setting.{Setting, code-ranges, ranges, ℓ, C, U}
 use Rattle.rules.specs.Refusal.{_if_, lowest, setting-causes, setting-refusal}
 use Rattle.rules.proofs.Tests.{both}
 use Rattle.setting.specs.Accepted.{Coded, Ranged, Passed}
-
-is-true : (b : Bool) → T b → b ≡ true
-is-true true t = refl
-is-true false t = absurd t
 
 refuted : (b : Bool) → (T b → ⊥) → false ≡ b
 refuted true h = absurd (h tt)
@@ -82,8 +78,3 @@ module _ (S : Setting) where
   passed e =
       let (prime, ranges, enough, few) = none-applies (modulus (S .p)) (ranges S) (leb (U S) (C S)) (ltb 24 (ℓ S)) e in
       record { prime = prime; ranged = ranged ranges; enough = nleb→lt (U S) (C S) enough; ℓ-most = nltb→le 24 (ℓ S) few }
-
-  -- nothing else is refused
-  pub accepts : Passed S → setting-refusal S ≡ 0
-  unfolding setting-refusal setting-causes lowest
-  accepts h = simp (is-true (modulus (S .p)) (h .prime), ranged-true (h .ranged), lt-leb (U S) (C S) (h .enough), le-ltb 24 (ℓ S) (h .ℓ-most))

@@ -45,6 +45,7 @@ unfolding spaced
 spaced-more xs i x l e = rw e (sym (ap spaced (rw add-one (take-suc xs i 0 l)) ∙ flat-snoc (λ y. 32 ∷ digits y) (take i xs) (getD xs i 0)))
 
 -- a line: its first field, the others, and the line feed
-pub wrote-line : (fields : List ℕ) {first d e f g : List ℕ} {at a b r : ℕ} → Wrote first at d e a → Wrote (spaced fields) a e f b → Wrote (10 ∷ []) b f g r → Wrote (line first fields) at d g r
+pub wrote-line : (fields : List ℕ) {first d e f g : List ℕ} {at a b r : ℕ} → Wrote first at d e a → Wrote (spaced fields) a e f b →
+    Wrote (10 ∷ []) b f g r → Wrote (line first fields) at d g r
 unfolding line
 wrote-line fields h i j = wrote-then h (wrote-then i j)

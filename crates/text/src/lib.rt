@@ -36,6 +36,7 @@ pub fn number(n: u64, out: &mut [u8], at: usize) -> usize
     }
 }
 
+// A field, as wide as a number is taken.
 fn wide(x: u16) -> u64
     ensures { λ r. ⌜ (r ≡ x) × (r < 65536) ⌝ }
 {
@@ -60,7 +61,8 @@ pub fn numbers(fields: &[u16], out: &mut [u8], at: usize) -> usize
 // A line whose first field is a number.
 pub fn numbered_line(first: u64, fields: &[u16], out: &mut [u8], at: usize) -> usize
     requires { ⌜ at + 21 + length (now fields) * 6 ≤ length (now out) ⌝ }
-    ensures { λ r. ⌜ (r ≤ at + 21 + length (now (fields .entry)) * 6) × Wrote (line (digits first) (now (fields .entry))) at (now (out .entry)) (now (out .exit)) r ⌝ }
+    ensures { λ r. ⌜ (r ≤ at + 21 + length (now (fields .entry)) * 6)
+        × Wrote (line (digits first) (now (fields .entry))) at (now (out .entry)) (now (out .exit)) r ⌝ }
 {
     let a = number(first, out, at);
     let b = numbers(fields, out, a);
@@ -70,7 +72,8 @@ pub fn numbered_line(first: u64, fields: &[u16], out: &mut [u8], at: usize) -> u
 // A line that begins with "+".
 pub fn plus_line(fields: &[u16], out: &mut [u8], at: usize) -> usize
     requires { ⌜ at + 2 + length (now fields) * 6 ≤ length (now out) ⌝ }
-    ensures { λ r. ⌜ (r ≤ at + 2 + length (now (fields .entry)) * 6) × Wrote (line (43 ∷ []) (now (fields .entry))) at (now (out .entry)) (now (out .exit)) r ⌝ }
+    ensures { λ r. ⌜ (r ≤ at + 2 + length (now (fields .entry)) * 6)
+        × Wrote (line (43 ∷ []) (now (fields .entry))) at (now (out .entry)) (now (out .exit)) r ⌝ }
 {
     let a = put(43, out, at);
     let b = numbers(fields, out, a);

@@ -1,1 +1,2 @@
+-- The lemmas of the crate.
 pub mod Read

@@ -1,4 +1,4 @@
--- A part of an array is as long as it is cut.
+-- lend: a part of an array is as long as it is cut.
 use mathlib.Core.Path.{sym}
 use lib.Seq.{length-take-le}
 use native.Mathlib.Omega.{arith}
@@ -7,13 +7,19 @@ use Rattle.calls.proofs.lend.Statement.{statement}
 use Rattle.calls.proofs.lend.Tie as tie
 
 slice-aggregate-run : tie.Need-slice-aggregate-run
-slice-aggregate-run c = sym (length-take-le (c .before .before .before .before .args .c .n) (c .before .before .before .before .args .points .now) (omega arith))
+slice-aggregate-run c =
+    let start = c .before .before .before .before in
+    sym (length-take-le (start .args .c .n) (start .args .points .now) (omega arith))
 
 slice-aggregate-run-2 : tie.Need-slice-aggregate-run-2
-slice-aggregate-run-2 c = sym (length-take-le (c .before .before .before .before .before .args .c .n) (c .before .before .before .before .before .args .word .now) (omega arith))
+slice-aggregate-run-2 c =
+    let start = c .before .before .before .before .before in
+    sym (length-take-le (start .args .c .n) (start .args .word .now) (omega arith))
 
 slice-aggregate-run-3 : tie.Need-slice-aggregate-run-3
-slice-aggregate-run-3 c = sym (length-take-le (c .before .before .before .before .before .before .args .c .long) (c .before .before .before .before .before .before .args .curve .now) (omega arith))
+slice-aggregate-run-3 c =
+    let start = c .before .before .before .before .before .before in
+    sym (length-take-le (start .args .c .long) (start .args .curve .now) (omega arith))
 
 run-requires : tie.Need-run-requires
 run-requires c κs = search needs

@@ -1,4 +1,4 @@
--- It ends after a thousand cases.
+-- main: it ends after a thousand cases.
 use Prim.Native.Nat.{_≤_, _-_}
 use borrow.Author.Needs.{needs}
 use Rattle.calls.proofs.main.Statement.{statement}

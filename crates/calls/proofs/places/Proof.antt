@@ -1,4 +1,4 @@
--- The product of two small numbers is small.
+-- places: the product of two small numbers is small.
 use Prim.Native.Nat.{ℕ, _*_, _≤_}
 use native.Mathlib.Nat.{mul-le-mul}
 use native.Mathlib.Omega.{arith}

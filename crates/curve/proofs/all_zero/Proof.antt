@@ -34,7 +34,10 @@ loop-less : tie.Need-loop-less Inv-loop μ-loop
 loop-less c = search needs
 
 loop-again : tie.Need-loop-again Inv-loop μ-loop
-loop-again c = (search needs, below-more (λ j. getD (c .before .before .before .before .args .run .now) j 0 ≡ 0) (c .before .before .before .loop .i) (c .before .before .before .loop .inv .1) (c .if1 .left))
+loop-again c =
+    let at-loop = c .before .before .before in
+    let start = at-loop .before in
+    (search needs, below-more (λ j. getD (start .args .run .now) j 0 ≡ 0) (at-loop .loop .i) (at-loop .loop .inv .1) (c .if1 .left))
 
 returns-2 : tie.Need-returns-2 Inv-loop μ-loop
 returns-2 c = blank-true _ (λ j l. c .before .loop .inv .1 j (omega arith))

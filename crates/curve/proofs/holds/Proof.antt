@@ -47,9 +47,14 @@ holds-with-requires c κs = search needs
 returns : tie.Need-returns Inv-loop μ-loop
 unfolding zero-below
 returns c =
-    let x = c .before .before .before .before .before .before .before .before .args in
-    let a = c .before .before .before .before .loop .a in
-    below-false _ (x .m) a (omega arith) (said-no _ _ (c .if1 .taken) (c .before .holds-with .ensures ∙ part-of (λ y. zero-with (x .q) (x .k) (x .w) (x .l) (x .m - a) y (x .ys .now) (x .curve .now)) (a * 256) (x .w) (x .xs .now)))
+    let at-loop = c .before .before .before .before in
+    let start = at-loop .before .before .before .before in
+    let x = start .args in
+    let a = at-loop .loop .a in
+    below-false _ (x .m) a (omega arith)
+    (said-no _ _ (c .if1 .taken)
+    (c .before .holds-with .ensures ∙ part-of (λ y. zero-with (x .q) (x .k) (x .w) (x .l) (x .m - a) y (x .ys .now) (x .curve .now)) (a * 256)
+    (x .w) (x .xs .now)))
 
 add-a : tie.Need-add-a Inv-loop μ-loop
 add-a c = search needs
@@ -59,11 +64,15 @@ loop-less c = search needs
 
 loop-again : tie.Need-loop-again Inv-loop μ-loop
 loop-again c =
-    let x = c .before .before .before .before .before .before .before .before .args in
-    let a = c .before .before .before .before .loop .a in (
+    let at-loop = c .before .before .before .before in
+    let start = at-loop .before .before .before .before in
+    let x = start .args in
+    let a = at-loop .loop .a in (
       search needs,
-      below-more (λ j. T (zero-with (x .q) (x .k) (x .w) (x .l) (x .m - j) (line j (x .w) (x .xs .now)) (x .ys .now) (x .curve .now))) a (c .before .before .before .before .loop .inv .1)
-          (said-yes _ _ (c .if1 .left) (c .before .holds-with .ensures ∙ part-of (λ y. zero-with (x .q) (x .k) (x .w) (x .l) (x .m - a) y (x .ys .now) (x .curve .now)) (a * 256) (x .w) (x .xs .now))),
+      below-more (λ j. T (zero-with (x .q) (x .k) (x .w) (x .l) (x .m - j) (line j (x .w) (x .xs .now)) (x .ys .now) (x .curve .now))) a (at-loop .loop .inv .1)
+          (said-yes _ _ (c .if1 .left)
+          (c .before .holds-with .ensures ∙ part-of (λ y. zero-with (x .q) (x .k) (x .w) (x .l) (x .m - a) y (x .ys .now) (x .curve .now))
+          (a * 256) (x .w) (x .xs .now))),
     )
 
 returns-2 : tie.Need-returns-2 Inv-loop μ-loop

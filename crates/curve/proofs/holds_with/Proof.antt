@@ -48,9 +48,13 @@ value-requires c κs = search needs
 returns : tie.Need-returns Inv-loop μ-loop
 unfolding zero-with
 returns c =
-    let x = c .before .before .before .before .before .before .before .before .args in
-    let b = c .before .before .before .before .loop .b in
-    below-false _ (x .n) b (omega arith) (λ t. c .if1 .taken (c .before .value .ensures ∙ part-of (λ y. pairing (x .q) (x .k) (x .w) (x .l) (x .x .now) y (x .curve .now)) (b * 256) (x .l + 1) (x .ys .now) ∙ eqb→eq _ 0 t))
+    let at-loop = c .before .before .before .before in
+    let start = at-loop .before .before .before .before in
+    let x = start .args in
+    let b = at-loop .loop .b in
+    below-false _ (x .n) b (omega arith)
+    (λ t. c .if1 .taken (c .before .value .ensures
+    ∙ part-of (λ y. pairing (x .q) (x .k) (x .w) (x .l) (x .x .now) y (x .curve .now)) (b * 256) (x .l + 1) (x .ys .now) ∙ eqb→eq _ 0 t))
 
 add-b : tie.Need-add-b Inv-loop μ-loop
 add-b c = search needs
@@ -60,11 +64,14 @@ loop-less c = search needs
 
 loop-again : tie.Need-loop-again Inv-loop μ-loop
 loop-again c =
-    let x = c .before .before .before .before .before .before .before .before .args in
-    let b = c .before .before .before .before .loop .b in (
+    let at-loop = c .before .before .before .before in
+    let start = at-loop .before .before .before .before in
+    let x = start .args in
+    let b = at-loop .loop .b in (
       search needs,
-      below-more (λ j. T (eqb (pairing (x .q) (x .k) (x .w) (x .l) (x .x .now) (line j (x .l + 1) (x .ys .now)) (x .curve .now)) 0)) b (c .before .before .before .before .loop .inv .1)
-          (zero-test (sym (c .before .value .ensures ∙ part-of (λ y. pairing (x .q) (x .k) (x .w) (x .l) (x .x .now) y (x .curve .now)) (b * 256) (x .l + 1) (x .ys .now)) ∙ c .if1 .left)),
+      below-more (λ j. T (eqb (pairing (x .q) (x .k) (x .w) (x .l) (x .x .now) (line j (x .l + 1) (x .ys .now)) (x .curve .now)) 0)) b (at-loop .loop .inv .1)
+          (zero-test (sym (c .before .value .ensures
+          ∙ part-of (λ y. pairing (x .q) (x .k) (x .w) (x .l) (x .x .now) y (x .curve .now)) (b * 256) (x .l + 1) (x .ys .now)) ∙ c .if1 .left)),
     )
 
 returns-2 : tie.Need-returns-2 Inv-loop μ-loop

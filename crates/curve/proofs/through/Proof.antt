@@ -32,10 +32,13 @@ holds-requires c κs = search needs
 
 returns : tie.Need-returns
 returns c =
-    let s = c .before .before .before .before .before .before .before .before .before .before in
-    let x = s .args in
+    let at-weigh-all2 = c .before .before .before .before in
+    let at-weigh-all = at-weigh-all2 .before .before .before in
+    let start = at-weigh-all .before .before .before in
+    let x = start .args in
     c .holds .ensures
-    ∙ below-met (x .q) (x .k) (x .w) (x .l) (x .curve .now) (record { point = x .alpha; symbol = x .symbol; times = x .m }) _ _ (s .pre .0 .narrow) (omega (arith, s .pre .0 .few)) (s .pre .1) (c .before .before .before .before .before .before .before .weigh-all .ensures) (c .before .before .before .before .weigh-all2 .ensures)
+    ∙ below-met (x .q) (x .k) (x .w) (x .l) (x .curve .now) (record { point = x .alpha; symbol = x .symbol; times = x .m }) _ _
+    (start .pre .0 .narrow) (omega (arith, start .pre .0 .few)) (start .pre .1) (at-weigh-all .weigh-all .ensures) (at-weigh-all2 .weigh-all2 .ensures)
 
 pub through-spec : {M : Type 1} → statement M
 through-spec =

@@ -42,14 +42,19 @@ cast-through : tie.Need-cast-through Inv-loop μ-loop
 cast-through c = omega (arith, c .shared-slice-known7 .given (c .before .before .before .before .loop .j))
 
 through-requires : tie.Need-through-requires Inv-loop μ-loop
-through-requires c κs = (c .before .before .before .before .before .before .before .before .before .pre .shape, c .before .before .before .before .before .before .before .before .before .pre .few (c .before .before .before .before .loop .j) (omega arith), c .before .before .before .before .before .before .before .before .before .pre .whole)
+through-requires c κs =
+    let at-loop = c .before .before .before .before in
+    let start = at-loop .before .before .before .before .before in
+    (start .pre .shape, start .pre .few (at-loop .loop .j) (omega arith), start .pre .whole)
 
 returns : tie.Need-returns Inv-loop μ-loop
 returns c =
-    let s = c .before .before .before .before .before .before .before .before .before .before .before in
-    let x = s .args in
+    let at-loop = c .before .before .before .before .before .before in
+    let start = at-loop .before .before .before .before .before in
+    let x = start .args in
     test-false _ (λ t. said-no _ _ (c .if1 .taken) (c .before .through .ensures)
-    (tripled-at (met (x .q) (x .k) (x .w) (x .l) (x .curve .now)) (x .points .now) (x .word .now) (x .times .now) (c .before .before .before .before .before .before .loop .j) (s .pre .symbols) (s .pre .multiplicities) (omega arith) t))
+    (tripled-at (met (x .q) (x .k) (x .w) (x .l) (x .curve .now)) (x .points .now) (x .word .now) (x .times .now) (at-loop .loop .j)
+    (start .pre .symbols) (start .pre .multiplicities) (omega arith) t))
 
 add-j : tie.Need-add-j Inv-loop μ-loop
 add-j c = search needs
@@ -59,16 +64,21 @@ loop-less c = search needs
 
 loop-again : tie.Need-loop-again Inv-loop μ-loop
 loop-again c =
-    let x = c .before .before .before .before .before .before .before .before .before .before .before .args in (
+    let at-loop = c .before .before .before .before .before .before in
+    let start = at-loop .before .before .before .before .before in
+    let x = start .args in (
       search needs,
-      below-more (λ i. T (met (x .q) (x .k) (x .w) (x .l) (x .curve .now) (triple-at (x .points .now) (x .word .now) (x .times .now) i))) (c .before .before .before .before .before .before .loop .j) (c .before .before .before .before .before .before .loop .inv .1)
+      below-more (λ i. T (met (x .q) (x .k) (x .w) (x .l) (x .curve .now) (triple-at (x .points .now) (x .word .now) (x .times .now) i)))
+          (at-loop .loop .j) (at-loop .loop .inv .1)
           (said-yes _ _ (c .if1 .left) (c .before .through .ensures)),
     )
 
 returns-2 : tie.Need-returns-2 Inv-loop μ-loop
 returns-2 c =
-    let x = c .before .before .before .before .before .before .args in
-    test-true _ (tripled-of (met (x .q) (x .k) (x .w) (x .l) (x .curve .now)) (x .points .now) (x .word .now) (x .times .now) (λ i l. c .before .loop .inv .1 i (omega arith)))
+    let start = c .before .before .before .before .before .before in
+    let x = start .args in
+    test-true _ (tripled-of (met (x .q) (x .k) (x .w) (x .l) (x .curve .now)) (x .points .now) (x .word .now) (x .times .now)
+    (λ i l. c .before .loop .inv .1 i (omega arith)))
 
 pub through-all-spec : {M : Type 1} → statement M
 through-all-spec =

@@ -38,24 +38,32 @@ part-dot-end : tie.Need-part-dot-end Inv-loop μ-loop
 part-dot-end c = omega (arith, row-inside _ _ _ _ (c .before .before .before .before .before .pre .0 .fits) (c .loop-test .taken))
 
 mul-dot : tie.Need-mul-dot Inv-loop μ-loop
-mul-dot c = omega (arith, row-inside _ _ _ _ (c .before .before .before .before .before .before .pre .0 .fits) (c .before .loop-test .taken))
+mul-dot c =
+    let start = c .before .before .before .before .before .before in
+    omega (arith, row-inside _ _ _ _ (start .pre .0 .fits) (c .before .loop-test .taken))
 
 sub-dot-2 : tie.Need-sub-dot-2 Inv-loop μ-loop
-sub-dot-2 c = omega (arith, row-inside _ _ _ _ (c .before .before .before .before .before .before .pre .0 .fits) (c .before .loop-test .taken))
+sub-dot-2 c =
+    let start = c .before .before .before .before .before .before in
+    omega (arith, row-inside _ _ _ _ (start .pre .0 .fits) (c .before .loop-test .taken))
 
 part-dot-start-2 : tie.Need-part-dot-start-2 Inv-loop μ-loop
-part-dot-start-2 c = omega (arith, row-inside _ _ _ _ (c .before .before .before .before .before .before .pre .0 .fits) (c .before .loop-test .taken))
+part-dot-start-2 c =
+    let start = c .before .before .before .before .before .before in
+    omega (arith, row-inside _ _ _ _ (start .pre .0 .fits) (c .before .loop-test .taken))
 
 part-dot-end-2 : tie.Need-part-dot-end-2 Inv-loop μ-loop
-part-dot-end-2 c = omega (arith, row-inside _ _ _ _ (c .before .before .before .before .before .before .pre .0 .fits) (c .before .loop-test .taken))
+part-dot-end-2 c =
+    let start = c .before .before .before .before .before .before in
+    omega (arith, row-inside _ _ _ _ (start .pre .0 .fits) (c .before .loop-test .taken))
 
 dot-requires : tie.Need-dot-requires Inv-loop μ-loop
 dot-requires c κs =
+    let start = c .before .before .before .before .before .before .before in
     let l = c .before .before .before .loop in
-    let s = c .before .before .before .before .before .before .before in
-    let h = row-inside _ _ _ _ (s .pre .0 .fits) (c .before .before .loop-test .taken) in
-    let p = parts-long (s .args .w - l .off) (l .at) (s .args .x .now) (s .args .curve .now) (omega arith) (omega arith) in
-    (s .pre .0 .field, omega arith, omega arith)
+    let h = row-inside _ _ _ _ (start .pre .0 .fits) (c .before .before .loop-test .taken) in
+    let p = parts-long (start .args .w - l .off) (l .at) (start .args .x .now) (start .args .curve .now) (omega arith) (omega arith) in
+    (start .pre .0 .field, omega arith, omega arith)
 
 mul-mixed : tie.Need-mul-mixed Inv-loop μ-loop
 mul-mixed c = search needs
@@ -67,13 +75,22 @@ mixed-requires : tie.Need-mixed-requires Inv-loop μ-loop
 mixed-requires c κs = search needs
 
 add-at : tie.Need-add-at Inv-loop μ-loop
-add-at c = omega (arith, row-inside _ _ _ _ (c .before .before .before .before .before .before .before .before .before .before .pre .0 .fits) (c .before .before .before .before .before .loop-test .taken))
+add-at c =
+    let at-loop-test = c .before .before .before .before .before in
+    let start = at-loop-test .before .before .before .before .before in
+    omega (arith, row-inside _ _ _ _ (start .pre .0 .fits) (at-loop-test .loop-test .taken))
 
 sub-off : tie.Need-sub-off Inv-loop μ-loop
-sub-off c = omega (arith, row-inside _ _ _ _ (c .before .before .before .before .before .before .before .before .before .before .pre .0 .fits) (c .before .before .before .before .before .loop-test .taken))
+sub-off c =
+    let at-loop-test = c .before .before .before .before .before in
+    let start = at-loop-test .before .before .before .before .before in
+    omega (arith, row-inside _ _ _ _ (start .pre .0 .fits) (at-loop-test .loop-test .taken))
 
 add-off : tie.Need-add-off Inv-loop μ-loop
-add-off c = omega (arith, row-inside _ _ _ _ (c .before .before .before .before .before .before .before .before .before .before .pre .0 .fits) (c .before .before .before .before .before .loop-test .taken))
+add-off c =
+    let at-loop-test = c .before .before .before .before .before in
+    let start = at-loop-test .before .before .before .before .before in
+    omega (arith, row-inside _ _ _ _ (start .pre .0 .fits) (at-loop-test .loop-test .taken))
 
 add-t : tie.Need-add-t Inv-loop μ-loop
 add-t c = search needs
@@ -83,14 +100,17 @@ loop-less c = search needs
 
 loop-again : tie.Need-loop-again Inv-loop μ-loop
 loop-again c =
-    let l = c .before .before .before .before .before .before .loop in
-    let s = c .before .before .before .before .before .before .before .before .before .before in
-    let x = s .args in
-    let h = row-inside _ _ _ _ (s .pre .0 .fits) (c .before .before .before .before .before .loop-test .taken) in (
+    let at-loop-test = c .before .before .before .before .before in
+    let at-loop = at-loop-test .before in
+    let start = at-loop .before .before .before .before in
+    let l = at-loop .loop in
+    let x = start .args in
+    let h = row-inside _ _ _ _ (start .pre .0 .fits) (at-loop-test .loop-test .taken) in (
       search needs,
       omega (arith, row-end (l .t) (x .w)),
       omega (arith, row-end (l .t) (x .k - 1)),
-      c .mixed .ensures ∙ pairing-more (x .q) (x .k) (x .w) (x .x .now) (x .y .now) (x .curve .now) (l .t) (l .inv .1) (l .inv .2) (omega arith) (omega arith) (l .inv .3) (c .before .before .dot .ensures),
+      c .mixed .ensures ∙ pairing-more (x .q) (x .k) (x .w) (x .x .now) (x .y .now) (x .curve .now) (l .t) (l .inv .1) (l .inv .2) (omega arith)
+          (omega arith) (l .inv .3) (c .before .before .dot .ensures),
     )
 
 returns : tie.Need-returns Inv-loop μ-loop

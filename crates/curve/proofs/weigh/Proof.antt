@@ -14,7 +14,8 @@ use Rattle.curve.proofs.weigh.Statement.{statement}
 use Rattle.curve.proofs.weigh.Tie as tie
 
 abbrev Inv-loop : tie.InvT-loop
-Inv-loop q alpha a n weights₀ at last₀ i₀ weights last i = (i ≤ n) × (at ≡ a * 256) × Changed (weight (ops q) alpha a) (a * 256) i weights₀ weights × (last ≡ weight (ops q) alpha a i)
+Inv-loop q alpha a n weights₀ at last₀ i₀ weights last i = (i ≤ n) × (at ≡ a * 256) × Changed (weight (ops q) alpha a) (a * 256) i weights₀ weights
+    × (last ≡ weight (ops q) alpha a i)
 
 abbrev μ-loop : tie.MeasureT-loop
 μ-loop q alpha a n weights₀ at last₀ i₀ weights last i = n - i
@@ -41,7 +42,8 @@ slice-write-weights : tie.Need-slice-write-weights Inv-loop μ-loop
 slice-write-weights c = search needs
 
 lower-requires : tie.Need-lower-requires Inv-loop μ-loop
-lower-requires c κs = (search needs, search needs, simp length-set (omega (arith, c .before .before .loop .inv .2 .len, c .before .before .before .before .before .pre .3 .len)))
+lower-requires c κs =
+    (search needs, search needs, simp length-set (omega (arith, c .before .before .loop .inv .2 .len, c .before .before .before .before .before .pre .3 .len)))
 
 mixed-requires : tie.Need-mixed-requires Inv-loop μ-loop
 mixed-requires c κs = search needs
@@ -54,15 +56,17 @@ loop-less c = search needs
 
 loop-again : tie.Need-loop-again Inv-loop μ-loop
 loop-again c =
-    let l = c .before .before .before .before .loop in
-    let s = c .before .before .before .before .before .before .before in
-    let x = s .args in
+    let at-loop = c .before .before .before .before in
+    let start = at-loop .before .before .before in
+    let l = at-loop .loop in
+    let x = start .args in
     let h = changed-more (x .a * 256 + l .i) (l .last) (l .inv .2) (omega arith) (omega arith) (l .inv .3) in (
       search needs,
       search needs,
       h,
       c .mixed .ensures ∙ ap (λ (y : ℕ). plus (x .q) (c .before .lower .result) (times (x .q) (x .alpha) y)) (l .inv .3)
-          ∙ weight-more (x .q) (x .alpha) (s .pre .0) (l .i) (x .a) (c .before .lower .result) (s .pre .3) h (omega arith) (omega arith) (c .before .lower .ensures),
+          ∙ weight-more (x .q) (x .alpha) (start .pre .0) (l .i) (x .a) (c .before .lower .result) (start .pre .3) h (omega arith) (omega arith)
+          (c .before .lower .ensures),
     )
 
 same-length : tie.Need-same-length Inv-loop μ-loop

@@ -26,13 +26,18 @@ loop-less : tie.Need-loop-less Inv-loop μ-loop
 loop-less c = search needs
 
 loop-again : tie.Need-loop-again Inv-loop μ-loop
-loop-again c = (search needs, weights-more (c .before .before .before .before .before .before .before .args .q) (c .before .before .before .before .before .before .before .args .alpha) (c .before .before .before .before .before .before .before .pre .2) (c .before .before .before .before .before .loop .inv .1) (c .before .before .weigh .ensures))
+loop-again c =
+    let at-loop = c .before .before .before .before .before in
+    let start = at-loop .before .before in
+    (search needs, weights-more (start .args .q) (start .args .alpha) (start .pre .2) (at-loop .loop .inv .1) (c .before .before .weigh .ensures))
 
 same-length : tie.Need-same-length Inv-loop μ-loop
 same-length c = search needs
 
 returns : tie.Need-returns Inv-loop μ-loop
-returns c = weights-to (c .before .before .before .args .q) (c .before .before .before .args .alpha) (c .before .loop .inv .1) (omega arith)
+returns c =
+    let start = c .before .before .before in
+    weights-to (start .args .q) (start .args .alpha) (c .before .loop .inv .1) (omega arith)
 
 pub weigh-all-spec : {M : Type 1} → statement M
 weigh-all-spec =

@@ -46,20 +46,28 @@ all-zero-requires c κs = search needs
 
 returns : tie.Need-returns Inv-loop μ-loop
 returns c =
-    let x = c .before .before .before .before .before .before .args in
-    let l = c .before .before .before .before .loop in
-    let h = row-inside _ _ _ _ (c .before .before .before .before .before .before .pre .3) (c .before .before .before .loop-test .taken) in
+    let at-loop = c .before .before .before .before in
+    let start = at-loop .before .before in
+    let x = start .args in
+    let l = at-loop .loop in
+    let h = row-inside _ _ _ _ (start .pre .3) (c .before .before .before .loop-test .taken) in
     λ q u. weighted-false q (x .k) (x .w) (x .l) (x .curve .now) u (λ f. said-no _ _ (c .if1 .taken) (c .before .all-zero .ensures)
     (clear-behind (x .k) (x .w) (l .t) (l .at) (l .off) (x .curve .now) (l .inv .1) (l .inv .2) (omega arith) (omega arith) (f (l .t) (omega arith))))
 
 add-at : tie.Need-add-at Inv-loop μ-loop
-add-at c = omega (arith, row-inside _ _ _ _ (c .before .before .before .before .before .before .pre .3) (c .before .before .before .loop-test .taken))
+add-at c =
+    let start = c .before .before .before .before .before .before in
+    omega (arith, row-inside _ _ _ _ (start .pre .3) (c .before .before .before .loop-test .taken))
 
 sub-off : tie.Need-sub-off Inv-loop μ-loop
-sub-off c = omega (arith, row-inside _ _ _ _ (c .before .before .before .before .before .before .pre .3) (c .before .before .before .loop-test .taken))
+sub-off c =
+    let start = c .before .before .before .before .before .before in
+    omega (arith, row-inside _ _ _ _ (start .pre .3) (c .before .before .before .loop-test .taken))
 
 add-off : tie.Need-add-off Inv-loop μ-loop
-add-off c = omega (arith, row-inside _ _ _ _ (c .before .before .before .before .before .before .pre .3) (c .before .before .before .loop-test .taken))
+add-off c =
+    let start = c .before .before .before .before .before .before in
+    omega (arith, row-inside _ _ _ _ (start .pre .3) (c .before .before .before .loop-test .taken))
 
 add-t : tie.Need-add-t Inv-loop μ-loop
 add-t c = search needs
@@ -69,14 +77,17 @@ loop-less c = search needs
 
 loop-again : tie.Need-loop-again Inv-loop μ-loop
 loop-again c =
-    let x = c .before .before .before .before .before .before .args in
-    let l = c .before .before .before .before .loop in
-    let h = row-inside _ _ _ _ (c .before .before .before .before .before .before .pre .3) (c .before .before .before .loop-test .taken) in (
+    let at-loop = c .before .before .before .before in
+    let start = at-loop .before .before in
+    let x = start .args in
+    let l = at-loop .loop in
+    let h = row-inside _ _ _ _ (start .pre .3) (c .before .before .before .loop-test .taken) in (
       search needs,
       omega (arith, row-end (l .t) (x .w)),
       omega (arith, row-end (l .t) (x .k - 1)),
       below-more (λ t. (i : ℕ) → i < x .w → x .w ≤ i + t * (x .k - 1) → getD (x .curve .now) (t * x .w + i) 0 ≡ 0) (l .t) (l .inv .3)
-          (behind-clear (x .k) (x .w) (l .t) (l .at) (l .off) (x .curve .now) (l .inv .1) (l .inv .2) (omega arith) (omega arith) (said-yes _ _ (c .if1 .left) (c .before .all-zero .ensures))),
+          (behind-clear (x .k) (x .w) (l .t) (l .at) (l .off) (x .curve .now) (l .inv .1) (l .inv .2) (omega arith) (omega arith)
+          (said-yes _ _ (c .if1 .left) (c .before .all-zero .ensures))),
     )
 
 returns-2 : tie.Need-returns-2 Inv-loop μ-loop

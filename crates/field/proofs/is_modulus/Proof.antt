@@ -29,7 +29,8 @@ rem-if3 : tie.Need-rem-if3 Inv-loop μ-loop
 rem-if3 c = search needs
 
 returns-3 : tie.Need-returns-3 Inv-loop μ-loop
-returns-3 c = prime-not _ (λ h. h .none (c .before .before .loop .d) (search needs) (omega (arith, double {d = c .before .before .loop .d} (search needs))) (c .if3 .taken))
+returns-3 c = prime-not _
+    (λ h. h .none (c .before .before .loop .d) (search needs) (omega (arith, double {d = c .before .before .loop .d} (search needs))) (c .if3 .taken))
 
 add-d : tie.Need-add-d Inv-loop μ-loop
 add-d c = search needs
@@ -38,7 +39,12 @@ loop-less : tie.Need-loop-less Inv-loop μ-loop
 loop-less c = omega (arith, double {d = c .before .before .loop .d} (omega arith))
 
 loop-again : tie.Need-loop-again Inv-loop μ-loop
-loop-again c = (search needs, omega (arith, double {d = c .before .before .loop .d} (omega arith)), search needs, below-more _ _ (c .before .before .loop .inv .3) (λ _. c .if3 .left))
+loop-again c = (
+  search needs,
+  omega (arith, double {d = c .before .before .loop .d} (omega arith)),
+  search needs,
+  below-more _ _ (c .before .before .loop .inv .3) (λ _. c .if3 .left),
+)
 
 returns-4 : tie.Need-returns-4 Inv-loop μ-loop
 returns-4 c = prime-is _ record { two = search needs; small = search needs; none = λ k l u. untried _ k _ (search needs) (c .before .loop .inv .3) l u }

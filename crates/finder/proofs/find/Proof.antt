@@ -41,7 +41,9 @@ state : (c : tie.After-room) → let a = entry c .args in (h : 1 < a .q) →
     Kept (a .q) h (a .k) (a .w) (a .l) (conditions (map (move (elt (a .q) h)) (tripled (a .points .now) (a .word .now) (a .times .now)))) (leads c) (held c)
 state c h =
     let s = entry c .pre .0 .shape in
-    met c .meet-all .ensures .1 .keeps h [] (kept-start s h (started c .start .last .1 .1 .1 .1 .0) (started c .start .ensures) (replicate 25 0) (λ j u. getD-replicate 25 j 0 0 (omega (arith, s .few))))
+    met c .meet-all .ensures .1 .keeps h []
+    (kept-start s h (started c .start .last .1 .1 .1 .1 .0) (started c .start .ensures) (replicate 25 0)
+    (λ j u. getD-replicate 25 j 0 0 (omega (arith, s .few))))
 
 same-room : (c : tie.After-room) → length (held c) ≡ length (entry c .args .work .now)
 same-room c = met c .meet-all .kept .1 .1 .1 .1 .1 .1 .1 .1 .0 ∙ started c .start .kept .1 .1 .1 .1 .0
@@ -49,7 +51,9 @@ same-room c = met c .meet-all .kept .1 .1 .1 .1 .1 .1 .1 .1 .0 ∙ started c .st
 room-left : (c : tie.After-room) → let a = entry c .args in (a .l + 1) * slot (a .w) (a .l) ≤ length (held c)
 room-left c = omega (arith, entry c .pre .1, same-room c)
 
-answer : (c : tie.After-room) → let a = entry c .args in Found (a .q) (a .k) (a .w) (a .l) (tripled (a .points .now) (a .word .now) (a .times .now)) (curve-at (a .w) (a .l) (held c) (c .before .pivot .result))
+answer : (c : tie.After-room) →
+    let a = entry c .args in Found (a .q) (a .k) (a .w) (a .l) (tripled (a .points .now) (a .word .now) (a .times .now))
+    (curve-at (a .w) (a .l) (held c) (c .before .pivot .result))
 answer c =
     let s = entry c .pre .0 .shape in
     found s _ (entry c .pre .2) (state c) (replicate 25 1) (λ j u. getD-replicate 25 j 1 0 (omega (arith, s .few))) (c .before .pivot .ensures) (room-left c)
@@ -71,7 +75,8 @@ slice-aggregate-meet-all c = search needs
 
 meet-all-requires : tie.Need-meet-all-requires
 meet-all-requires c κs =
-    let start = c .before .before .before .before .before .before .before .before .before .before .before in
+    let at-start = c .before .before .before .before in
+    let start = at-start .before .before .before .before .before .before .before in
     let a = start .args in
     let p = start .pre .0 in (
       p .shape,
@@ -80,7 +85,7 @@ meet-all-requires c κs =
       p .few,
       omega (arith, p .shape .few),
       λ j u. rw (getD-replicate {A = ℕ} 25 j 0 0 (omega (arith, p .shape .few))) (omega (arith, row-inside (a .k) (a .w) (a .l) j (p .shape .fits) u .0)),
-      omega (arith, start .pre .1, c .before .before .before .before .start .kept .1 .1 .1 .1 .0),
+      omega (arith, start .pre .1, at-start .start .kept .1 .1 .1 .1 .0),
     )
 
 slice-aggregate-pivot : tie.Need-slice-aggregate-pivot
@@ -92,8 +97,13 @@ slice-aggregate-pivot-2 c = search needs
 pivot-requires : tie.Need-pivot-requires
 pivot-requires c κs =
     let at-meet-all = c .before .before .before .before .before in
-    let p = at-meet-all .before .before .before .before .before .before .before .before .before .before .before .before .pre .0 in
-    (p .shape, omega (arith, p .shape .few, at-meet-all .meet-all .kept .1 .1 .1 .1 .1 .1 .1 .0), omega (arith, p .shape .few), at-meet-all .meet-all .ensures .0)
+    let start = at-meet-all .before .before .before .before .before .before .before .before .before .before .before .before in
+    let p = start .pre .0 in (
+      p .shape,
+      omega (arith, p .shape .few, at-meet-all .meet-all .kept .1 .1 .1 .1 .1 .1 .1 .0),
+      omega (arith, p .shape .few),
+      at-meet-all .meet-all .ensures .0,
+    )
 
 room-requires : tie.Need-room-requires
 room-requires c κs = search needs
@@ -119,7 +129,8 @@ part-copy-end c = bound (c .before)
 copy-requires : tie.Need-copy-requires
 copy-requires c κs =
     let r = c .before .before .before in
-    let p = r .before .pivot .result in
+    let at-pivot = r .before in
+    let p = at-pivot .pivot .result in
     let s = r .room .result in
     len-mid (p * s) (p * s + s - p * s) (held r) (omega (arith, bound r)) ∙ omega (arith, r .room .ensures, entry r .pre .0 .whole)
 
@@ -132,8 +143,9 @@ same-length-2 c = search needs
 returns : tie.Need-returns
 returns c =
     let r = c .before .before .before .before .before .before in
+    let at-pivot = r .before in
     let a = entry r .args in
-    let p = r .before .pivot .result in
+    let p = at-pivot .pivot .result in
     let s = r .room .result in
     let e : take (p * s + s - p * s) (drop (p * s) (held r)) ≡ curve-at (a .w) (a .l) (held r) p =
     ap (λ (n : ℕ). take n (drop (p * s) (held r))) (add-sub-cancel-left (p * s) s) ∙ ap (λ (x : ℕ). take x (drop (p * x) (held r))) (r .room .ensures) in

@@ -47,7 +47,8 @@ returns-3 c =
     let at-fits2 = at-if1 .before in
     let at-stated-length = at-fits2 .before in
     let n = at-stated-length .stated-length in
-    broken-setting _ (n .result) (n .ensures) (sym (not-false _ (at-if1 .if1 .left)) ∙ at-fits2 .fits2 .ensures) (omega arith) (c .before .pair .result) (c .before .pair .ensures) (c .if3 .taken) refl
+    broken-setting _ (n .result) (n .ensures) (sym (not-false _ (at-if1 .if1 .left)) ∙ at-fits2 .fits2 .ensures) (omega arith)
+    (c .before .pair .result) (c .before .pair .ensures) (c .if3 .taken) refl
 
 returns-4 : tie.Need-returns-4
 returns-4 c =
@@ -55,7 +56,8 @@ returns-4 c =
     let at-fits2 = at-if1 .before in
     let at-stated-length = at-fits2 .before in
     let n = at-stated-length .stated-length in
-    not-broken _ (n .result) (n .ensures) (sym (not-false _ (at-if1 .if1 .left)) ∙ at-fits2 .fits2 .ensures) (omega arith) (c .before .pair .result) (c .before .pair .ensures) (c .if3 .left)
+    not-broken _ (n .result) (n .ensures) (sym (not-false _ (at-if1 .if1 .left)) ∙ at-fits2 .fits2 .ensures) (omega arith) (c .before .pair .result)
+    (c .before .pair .ensures) (c .if3 .left)
 
 pub is-broken-spec : {M : Type 1} → statement M
 is-broken-spec =

@@ -22,8 +22,8 @@ joined-requires c κs = search needs
 
 returns : tie.Need-returns
 returns c =
-    let at-start = c .before .before .before .before in
-    c .joined .ensures ∙ pair-at (at-start .args .bytes .now) (at-start .args .j) (at-start .pre)
+    let start = c .before .before .before .before in
+    c .joined .ensures ∙ pair-at (start .args .bytes .now) (start .args .j) (start .pre)
 
 pub pair-spec : {M : Type 1} → statement M
 pair-spec =

@@ -43,18 +43,20 @@ loop-less c = search needs
 loop-again : tie.Need-loop-again Inv-loop μ-loop
 loop-again c =
     let at-loop = c .before .before in
-    let at-start = at-loop .before .before in
-    let l = at-loop .loop in let b = at-start .args .bytes .now in (
+    let start = at-loop .before .before in
+    let l = at-loop .loop in let b = start .args .bytes .now in (
       omega arith,
-      body-more b (at-start .args .out .now) _ (l .i) (c .pair .result) (l .inv .1) (omega (arith, body-count b)) (c .pair .ensures),
+      body-more b (start .args .out .now) _ (l .i) (c .pair .result) (l .inv .1) (omega (arith, body-count b)) (c .pair .ensures),
     )
 
 returns : tie.Need-returns Inv-loop μ-loop
-returns c = let l = c .before .loop in let b = c .before .before .before .args .bytes .now in record {
-  count = omega (arith, body-count b);
-  most = omega arith;
-  out = l .inv .1 ∙ ap (λ t. sets (c .before .before .before .args .out .now) 0 t) (take-all (l .i) (body b) (omega (arith, body-count b)));
-}
+returns c =
+    let start = c .before .before .before in
+    let l = c .before .loop in let b = start .args .bytes .now in record {
+      count = omega (arith, body-count b);
+      most = omega arith;
+      out = l .inv .1 ∙ ap (λ t. sets (start .args .out .now) 0 t) (take-all (l .i) (body b) (omega (arith, body-count b)));
+    }
 
 pub read-body-spec : {M : Type 1} → statement M
 read-body-spec =

@@ -13,7 +13,9 @@ slice-reshare-prefix-want : tie.Need-slice-reshare-prefix-want
 slice-reshare-prefix-want c = search needs
 
 slice-aggregate-want : tie.Need-slice-aggregate-want
-slice-aggregate-want c = sym (length-take-le (c .before .before .before .fill .result) (c .before .before .before .fill .last .0) (omega arith))
+slice-aggregate-want c =
+    let at-fill = c .before .before .before in
+    sym (length-take-le (at-fill .fill .result) (at-fill .fill .last .0) (omega arith))
 
 want-requires : tie.Need-want-requires
 want-requires c κs = search needs

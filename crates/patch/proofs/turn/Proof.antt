@@ -24,8 +24,8 @@ slice-aggregate-step-2 c = search needs
 step-requires : tie.Need-step-requires
 step-requires c κs =
     let at-read-record = c .before .before .before in
-    let at-start = at-read-record .before .before in
-    (at-start .pre, omega (arith, length-take-le (at-read-record .read-record .result) (at-read-record .read-record .last .0) (omega arith)), search needs)
+    let start = at-read-record .before .before in
+    (start .pre, omega (arith, length-take-le (at-read-record .read-record .result) (at-read-record .read-record .last .0) (omega arith)), search needs)
 
 array-share-prefix-out : tie.Need-array-share-prefix-out
 array-share-prefix-out c = search needs

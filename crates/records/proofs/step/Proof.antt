@@ -23,8 +23,9 @@ use Rattle.records.proofs.step.Tie as tie
 
 returns : tie.Need-returns
 returns c =
-    let at-start = c .before .before .before in
-    stepped (record { held = refl; text = wrote-none _ _; more = refl; within = omega arith }) (at-start .pre .0) (turn-end (at-start .args .number) (held-of (at-start .args .held)) (at-start .args .bytes .now) (c .if1 .taken))
+    let start = c .before .before .before in
+    stepped (record { held = refl; text = wrote-none _ _; more = refl; within = omega arith }) (start .pre .0)
+    (turn-end (start .args .number) (held-of (start .args .held)) (start .args .bytes .now) (c .if1 .taken))
 
 is-broken-requires : tie.Need-is-broken-requires
 is-broken-requires c κs = search needs
@@ -41,8 +42,8 @@ returns-2 c =
     let at-if2 = at-told .before .before in
     let at-is-broken = at-if2 .before in
     let at-if1 = at-is-broken .before in
-    let at-start = at-if1 .before .before .before in
-    stepped (at-told .told .ensures) (at-start .pre .0) (turn-broken _ _ _ (at-if1 .if1 .left) (sym (at-is-broken .is-broken .ensures) ∙ at-if2 .if2 .taken))
+    let start = at-if1 .before .before .before in
+    stepped (at-told .told .ensures) (start .pre .0) (turn-broken _ _ _ (at-if1 .if1 .left) (sym (at-is-broken .is-broken .ensures) ∙ at-if2 .if2 .taken))
 
 pair-requires : tie.Need-pair-requires
 pair-requires c κs =
@@ -55,9 +56,10 @@ take-setting-requires c κs =
     let at-pair = c .before .before in
     let at-if2 = at-pair .before in
     let at-is-broken = at-if2 .before in
-    let at-start = at-is-broken .before .before .before .before in
-    let w = whole-long (at-start .args .bytes .now) (sym (at-is-broken .is-broken .ensures) ∙ at-if2 .if2 .left) in
-    let f = whole-five (at-start .args .bytes .now) (sym (at-is-broken .is-broken .ensures) ∙ at-if2 .if2 .left) (sym (at-pair .pair .ensures) ∙ c .before .if3 .taken) in
+    let start = at-is-broken .before .before .before .before in
+    let w = whole-long (start .args .bytes .now) (sym (at-is-broken .is-broken .ensures) ∙ at-if2 .if2 .left) in
+    let f = whole-five (start .args .bytes .now) (sym (at-is-broken .is-broken .ensures) ∙ at-if2 .if2 .left)
+    (sym (at-pair .pair .ensures) ∙ c .before .if3 .taken) in
     (omega arith, search needs)
 
 same-length-2 : tie.Need-same-length-2
@@ -71,15 +73,16 @@ returns-3 c =
     let at-if2 = at-pair .before in
     let at-is-broken = at-if2 .before in
     let at-if1 = at-is-broken .before in
-    stepped (at-take-setting .take-setting .ensures) (setting-possible _ _) (turn-setting _ _ _ (at-if1 .if1 .left) (sym (at-is-broken .is-broken .ensures) ∙ at-if2 .if2 .left) (at-pair .pair .ensures) (at-if3 .if3 .taken))
+    stepped (at-take-setting .take-setting .ensures) (setting-possible _ _)
+    (turn-setting _ _ _ (at-if1 .if1 .left) (sym (at-is-broken .is-broken .ensures) ∙ at-if2 .if2 .left) (at-pair .pair .ensures) (at-if3 .if3 .taken))
 
 take-points-requires : tie.Need-take-points-requires
 take-points-requires c κs =
     let at-if2 = c .before .before .before .before in
     let at-is-broken = at-if2 .before in
-    let at-start = at-is-broken .before .before .before .before in
-    let w = whole-long (at-start .args .bytes .now) (sym (at-is-broken .is-broken .ensures) ∙ at-if2 .if2 .left) in
-    (omega arith, at-start .pre .1, search needs)
+    let start = at-is-broken .before .before .before .before in
+    let w = whole-long (start .args .bytes .now) (sym (at-is-broken .is-broken .ensures) ∙ at-if2 .if2 .left) in
+    (omega arith, start .pre .1, search needs)
 
 same-length-3 : tie.Need-same-length-3
 same-length-3 c = search needs
@@ -92,16 +95,17 @@ returns-4 c =
     let at-if2 = at-pair .before in
     let at-is-broken = at-if2 .before in
     let at-if1 = at-is-broken .before in
-    let at-start = at-if1 .before .before .before in
-    stepped (at-take-points .take-points .ensures) (come-possible _ _ _ (at-start .pre .0)) (turn-points _ _ _ (at-if1 .if1 .left) (sym (at-is-broken .is-broken .ensures) ∙ at-if2 .if2 .left) (at-pair .pair .ensures) (at-if4 .if4 .taken))
+    let start = at-if1 .before .before .before in
+    stepped (at-take-points .take-points .ensures) (come-possible _ _ _ (start .pre .0))
+    (turn-points _ _ _ (at-if1 .if1 .left) (sym (at-is-broken .is-broken .ensures) ∙ at-if2 .if2 .left) (at-pair .pair .ensures) (at-if4 .if4 .taken))
 
 take-word-requires : tie.Need-take-word-requires
 take-word-requires c κs =
     let at-if2 = c .before .before .before .before .before in
     let at-is-broken = at-if2 .before in
-    let at-start = at-is-broken .before .before .before .before in
-    let w = whole-long (at-start .args .bytes .now) (sym (at-is-broken .is-broken .ensures) ∙ at-if2 .if2 .left) in
-    (at-start .pre .0, omega arith, at-start .pre .1, search needs)
+    let start = at-is-broken .before .before .before .before in
+    let w = whole-long (start .args .bytes .now) (sym (at-is-broken .is-broken .ensures) ∙ at-if2 .if2 .left) in
+    (start .pre .0, omega arith, start .pre .1, search needs)
 
 same-length-4 : tie.Need-same-length-4
 same-length-4 c = search needs
@@ -114,8 +118,9 @@ returns-5 c =
     let at-if2 = at-pair .before in
     let at-is-broken = at-if2 .before in
     let at-if1 = at-is-broken .before in
-    let at-start = at-if1 .before .before .before in
-    stepped (at-take-word .take-word .ensures) (word-possible _ _ _ (at-start .pre .0)) (turn-word _ _ _ (at-if1 .if1 .left) (sym (at-is-broken .is-broken .ensures) ∙ at-if2 .if2 .left) (at-pair .pair .ensures) (at-if5 .if5 .taken))
+    let start = at-if1 .before .before .before in
+    stepped (at-take-word .take-word .ensures) (word-possible _ _ _ (start .pre .0))
+    (turn-word _ _ _ (at-if1 .if1 .left) (sym (at-is-broken .is-broken .ensures) ∙ at-if2 .if2 .left) (at-pair .pair .ensures) (at-if5 .if5 .taken))
 
 told-requires-2 : tie.Need-told-requires-2
 told-requires-2 c κs = search needs
@@ -133,8 +138,10 @@ returns-6 c =
     let at-if2 = at-pair .before in
     let at-is-broken = at-if2 .before in
     let at-if1 = at-is-broken .before in
-    let at-start = at-if1 .before .before .before in
-    stepped (at-told2 .told2 .ensures) (at-start .pre .0) (turn-other _ _ _ (at-if1 .if1 .left) (sym (at-is-broken .is-broken .ensures) ∙ at-if2 .if2 .left) (at-pair .pair .ensures) (at-if3 .if3 .left) (at-if4 .if4 .left) (at-if5 .if5 .left))
+    let start = at-if1 .before .before .before in
+    stepped (at-told2 .told2 .ensures) (start .pre .0)
+    (turn-other _ _ _ (at-if1 .if1 .left) (sym (at-is-broken .is-broken .ensures) ∙ at-if2 .if2 .left) (at-pair .pair .ensures)
+    (at-if3 .if3 .left) (at-if4 .if4 .left) (at-if5 .if5 .left))
 
 pub step-spec : {M : Type 1} → statement M
 step-spec =

@@ -7,7 +7,7 @@ use Rattle.prime.proofs.Below.{modulus-small}
 use Rattle.search.specs.Slot.{curve}
 use Rattle.search.specs.Search.{size}
 use Rattle.search.proofs.Walked.{walked, passed, found-walked, tried-passed}
-use Rattle.search.proofs.Turn.{Seen, peel, seen-none, room-next, same-low, seen-miss, enter, leave, searched-to, searched-at, ready-end, ready-walk, searched-end, searched-visit}
+use Rattle.search.proofs.Turn.{Seen, peel, seen-none, room-next, same-low, seen-miss, enter, leave, searched-to, searched-at, tried-some, ready-end, ready-walk, searched-end, searched-visit}
 use native.Mathlib.Omega.{arith}
 use borrow.Author.Needs.{needs}
 use Prim.Native.Nat.{ℕ, _<_}
@@ -43,329 +43,208 @@ walk-at t = and 3 walk-kinds.ps (is 3 walk-kinds.ps μ-walk t) walk.Pre
 abbrev walk-below : ℕ → In 3 walk-kinds.ps
 walk-below t = and 3 walk-kinds.ps (falls 3 walk-kinds.ps _<_ μ-walk t) walk.Pre
 
-visit-settle-requires : (t : ℕ) → visit-lts.Need-settle-requires (
-  settle-reads.Asked,
-  settle-reads.Learnt,
-  walk-below t,
-  walk.Post,
-) (visit-at t) visit.Post
-visit-settle-requires t c κs = let x = c .before .before .before .before .before .before .before .args in
-    let p = c .before .before .before .before .before .before .before .pre .1 in
-    ready-end (c .before .before .before .if1 .taken) p
-
-visit-same-length : (t : ℕ) → visit-lts.Need-same-length (
-  settle-reads.Asked,
-  settle-reads.Learnt,
-  walk-below t,
-  walk.Post,
-) (visit-at t) visit.Post
-visit-same-length t c = search needs
-
-visit-same-length-2 : (t : ℕ) → visit-lts.Need-same-length-2 (
-  settle-reads.Asked,
-  settle-reads.Learnt,
-  walk-below t,
-  walk.Post,
-) (visit-at t) visit.Post
-visit-same-length-2 t c = search needs
-
-visit-same-length-3 : (t : ℕ) → visit-lts.Need-same-length-3 (
-  settle-reads.Asked,
-  settle-reads.Learnt,
-  walk-below t,
-  walk.Post,
-) (visit-at t) visit.Post
-visit-same-length-3 t c = search needs
-
-visit-returns : (t : ℕ) → visit-lts.Need-returns (
-  settle-reads.Asked,
-  settle-reads.Learnt,
-  walk-below t,
-  walk.Post,
-) (visit-at t) visit.Post
-visit-returns t c = searched-end (c .before .before .before .before .before .before .if1 .taken) (c .before .before .settle .ensures)
-
-visit-add-t16 : (t : ℕ) → visit-lts.Need-add-t16 (
-  settle-reads.Asked,
-  settle-reads.Learnt,
-  walk-below t,
-  walk.Post,
-) (visit-at t) visit.Post
-visit-add-t16 t c = let x = c .before .before .before .before .before .args in
-    omega (arith, c .before .before .before .before .before .pre .1 .count, tried-passed (x .h .q) (x .left) (curve (x .h .w) (x .h .l) (x .a) (x .work .now)) (pos-of-ne-zero (c .before .if1 .left)))
-
-visit-walk-requires : (t : ℕ) → visit-lts.Need-walk-requires (
-  settle-reads.Asked,
-  settle-reads.Learnt,
-  walk-below t,
-  walk.Post,
-) (visit-at t) visit.Post
-visit-walk-requires t c κs = let x = c .before .before .before .before .before .before .before .before .args in
-    let p = c .before .before .before .before .before .before .before .before .pre .1 in
-    let o = pos-of-ne-zero (c .before .before .before .before .if1 .left) in
-    (omega arith, (o, ready-walk _ _ (omega (arith, tried-passed (x .h .q) (x .left) (curve (x .h .w) (x .h .l) (x .a) (x .work .now)) o)) p))
-
-visit-same-length-4 : (t : ℕ) → visit-lts.Need-same-length-4 (
-  settle-reads.Asked,
-  settle-reads.Learnt,
-  walk-below t,
-  walk.Post,
-) (visit-at t) visit.Post
-visit-same-length-4 t c = search needs
-
-visit-same-length-5 : (t : ℕ) → visit-lts.Need-same-length-5 (
-  settle-reads.Asked,
-  settle-reads.Learnt,
-  walk-below t,
-  walk.Post,
-) (visit-at t) visit.Post
-visit-same-length-5 t c = search needs
-
-visit-same-length-6 : (t : ℕ) → visit-lts.Need-same-length-6 (
-  settle-reads.Asked,
-  settle-reads.Learnt,
-  walk-below t,
-  walk.Post,
-) (visit-at t) visit.Post
-visit-same-length-6 t c = search needs
-
-visit-returns-2 : (t : ℕ) → visit-lts.Need-returns-2 (
-  settle-reads.Asked,
-  settle-reads.Learnt,
-  walk-below t,
-  walk.Post,
-) (visit-at t) visit.Post
-visit-returns-2 t c = let x = c .before .before .before .before .before .before .before .before .before .before .before .before .before .before .before .args in
-    searched-visit _ _ (omega (arith, tried-passed (x .h .q) (x .left) (curve (x .h .w) (x .h .l) (x .a) (x .work .now)) (pos-of-ne-zero (c .before .before .before .before .before .before .before .before .before .before .before .if1 .left)))) (c .before .before .before .before .before .before .walk .ensures)
-
 abbrev walk-Inv-loop : walk-lts.InvT-loop
-walk-Inv-loop h left a work₀ begun₀ roots₀ q w l place after all₀ g₀ work begun roots all g = (g ≤ h .q) × Seen h left a work₀ begun₀ roots₀ all₀ g work begun roots all
+walk-Inv-loop h left a work₀ begun₀ roots₀ q w l place after all₀ g₀ work begun roots all g = (g ≤ h .q)
+    × Seen h left a work₀ begun₀ roots₀ all₀ g work begun roots all
 
 abbrev walk-μ-loop : walk-lts.MeasureT-loop
 walk-μ-loop h left a work₀ begun₀ roots₀ q w l place after all₀ g₀ work begun roots all g = h .q - g
 
-walk-sub-place : (t : ℕ) → walk-lts.Need-sub-place (
-  follows-reads.Asked,
-  follows-reads.Learnt,
-  next-reads.Asked,
-  next-reads.Learnt,
-  visit-below t,
-  visit.Post,
-) (walk-at t) walk.Post walk-Inv-loop walk-μ-loop
-walk-sub-place t c = omega (arith, c .before .before .before .before .pre .1 .1 .placed)
+-- the answers at the value t of the measure
+module _ (t : ℕ) where
+  -- what the calls of each ask and give
+  abbrev visit-claims : visit-lts.Claims
+  visit-claims = (settle-reads.Asked, settle-reads.Learnt, walk-below t, walk.Post)
 
-walk-add-after : (t : ℕ) → walk-lts.Need-add-after (
-  follows-reads.Asked,
-  follows-reads.Learnt,
-  next-reads.Asked,
-  next-reads.Learnt,
-  visit-below t,
-  visit.Post,
-) (walk-at t) walk.Post walk-Inv-loop walk-μ-loop
-walk-add-after t c = let x = c .before .before .before .before .args in
-    let p = c .before .before .before .before .pre .1 in
-    omega (arith, p .1 .slots, p .1 .shaped .tall, peel (x .left) (size (x .h)) (p .0))
+  abbrev walk-claims : walk-lts.Claims
+  walk-claims = (follows-reads.Asked, follows-reads.Learnt, next-reads.Asked, next-reads.Learnt, visit-below t, visit.Post)
 
-walk-mul-after : (t : ℕ) → walk-lts.Need-mul-after (
-  follows-reads.Asked,
-  follows-reads.Learnt,
-  next-reads.Asked,
-  next-reads.Learnt,
-  visit-below t,
-  visit.Post,
-) (walk-at t) walk.Post walk-Inv-loop walk-μ-loop
-walk-mul-after t c = let x = c .before .before .before .before .args in
-    let p = c .before .before .before .before .pre .1 in
-    omega (arith, p .1 .slots, p .1 .shaped .tall, peel (x .left) (size (x .h)) (p .0))
+  visit-settle-requires : visit-lts.Need-settle-requires visit-claims (visit-at t) visit.Post
+  visit-settle-requires c κs =
+      let start = c .before .before .before .before .before .before .before in
+      ready-end (c .before .before .before .if1 .taken) (start .pre .1)
 
-walk-add-after-2 : (t : ℕ) → walk-lts.Need-add-after-2 (
-  follows-reads.Asked,
-  follows-reads.Learnt,
-  next-reads.Asked,
-  next-reads.Learnt,
-  visit-below t,
-  visit.Post,
-) (walk-at t) walk.Post walk-Inv-loop walk-μ-loop
-walk-add-after-2 t c = let x = c .before .before .before .before .args in
-    let p = c .before .before .before .before .pre .1 in
-    omega (arith, p .1 .slots, p .1 .shaped .tall, peel (x .left) (size (x .h)) (p .0))
+  visit-same-length : visit-lts.Need-same-length visit-claims (visit-at t) visit.Post
+  visit-same-length c = search needs
 
-walk-loop-holds : (t : ℕ) → walk-lts.Need-loop-holds (
-  follows-reads.Asked,
-  follows-reads.Learnt,
-  next-reads.Asked,
-  next-reads.Learnt,
-  visit-below t,
-  visit.Post,
-) (walk-at t) walk.Post walk-Inv-loop walk-μ-loop
-walk-loop-holds t c = let x = c .before .before .before .before .args in
-    (omega arith, seen-none (x .h) (x .left) (x .a) (x .work .now) (x .begun .now) (x .roots .now) (x .t))
+  visit-same-length-2 : visit-lts.Need-same-length-2 visit-claims (visit-at t) visit.Post
+  visit-same-length-2 c = search needs
 
-walk-follows-requires : (t : ℕ) → walk-lts.Need-follows-requires (
-  follows-reads.Asked,
-  follows-reads.Learnt,
-  next-reads.Asked,
-  next-reads.Learnt,
-  visit-below t,
-  visit.Post,
-) (walk-at t) walk.Post walk-Inv-loop walk-μ-loop
-walk-follows-requires t c κs = let x = c .before .before .before .before .before .before .before .args in
-    let p = c .before .before .before .before .before .before .before .pre .1 in
-    let l = c .before .before .loop in
-    (p .1 .shaped .field, p .1 .shaped .wide, p .1 .shaped .tall, omega (arith, room-next (x .h) (x .left) (x .a) (x .work .now) (x .begun .now) (x .roots .now) (x .t) (p .0) (p .1) (l .g) (omega arith) (l .work) (l .begun) (l .roots) (l .all) (l .inv .1)))
+  visit-same-length-3 : visit-lts.Need-same-length-3 visit-claims (visit-at t) visit.Post
+  visit-same-length-3 c = search needs
 
-walk-mul-begun : (t : ℕ) → walk-lts.Need-mul-begun (
-  follows-reads.Asked,
-  follows-reads.Learnt,
-  next-reads.Asked,
-  next-reads.Learnt,
-  visit-below t,
-  visit.Post,
-) (walk-at t) walk.Post walk-Inv-loop walk-μ-loop
-walk-mul-begun t c = let x = c .before .before .before .before .before .before .before .before .before .args in
-    let p = c .before .before .before .before .before .before .before .before .before .pre .1 in
-    let l = c .before .before .before .before .loop in
-    omega (arith, p .0, p .1 .placed, p .1 .beginning, l .inv .1 .beginning)
+  visit-returns : visit-lts.Need-returns visit-claims (visit-at t) visit.Post
+  visit-returns c =
+      let at-if1 = c .before .before .before .before .before .before in
+      searched-end (at-if1 .if1 .taken) (c .before .before .settle .ensures)
 
-walk-slice-write-begun : (t : ℕ) → walk-lts.Need-slice-write-begun (
-  follows-reads.Asked,
-  follows-reads.Learnt,
-  next-reads.Asked,
-  next-reads.Learnt,
-  visit-below t,
-  visit.Post,
-) (walk-at t) walk.Post walk-Inv-loop walk-μ-loop
-walk-slice-write-begun t c = let x = c .before .before .before .before .before .before .before .before .before .args in
-    let p = c .before .before .before .before .before .before .before .before .before .pre .1 in
-    let l = c .before .before .before .before .loop in
-    omega (arith, p .0, p .1 .placed, p .1 .beginning, l .inv .1 .beginning)
+  visit-add-t16 : visit-lts.Need-add-t16 visit-claims (visit-at t) visit.Post
+  visit-add-t16 c =
+      let start = c .before .before .before .before .before in
+      let x = start .args in
+      omega (arith, start .pre .1 .count, tried-some (x .h) (x .left) (x .a) (x .work .now) (c .before .if1 .left))
 
-walk-next-requires : (t : ℕ) → walk-lts.Need-next-requires (
-  follows-reads.Asked,
-  follows-reads.Learnt,
-  next-reads.Asked,
-  next-reads.Learnt,
-  visit-below t,
-  visit.Post,
-) (walk-at t) walk.Post walk-Inv-loop walk-μ-loop
-walk-next-requires t c κs = let x = c .before .before .before .before .before .before .before .before .before .before .args in
-    let p = c .before .before .before .before .before .before .before .before .before .before .pre .1 in
-    let l = c .before .before .before .before .before .loop in
-    (p .1 .shaped .field, omega arith, p .1 .shaped .wide, p .1 .shaped .tall, p .1 .spare, room-next (x .h) (x .left) (x .a) (x .work .now) (x .begun .now) (x .roots .now) (x .t) (p .0) (p .1) (l .g) (omega arith) (l .work) (l .begun) (l .roots) (l .all) (l .inv .1), same-low (x .h) (x .left) (x .a) (x .work .now) (x .begun .now) (x .roots .now) (x .t) (p .0) (p .1) (l .g) (omega arith) (l .work) (l .begun) (l .roots) (l .all) (l .inv .1))
+  visit-walk-requires : visit-lts.Need-walk-requires visit-claims (visit-at t) visit.Post
+  visit-walk-requires c κs =
+      let at-if1 = c .before .before .before .before in
+      let start = at-if1 .before .before .before .before in
+      let x = start .args in
+      (omega arith, (pos-of-ne-zero (at-if1 .if1 .left), ready-walk _ _ (tried-some (x .h) (x .left) (x .a) (x .work .now) (at-if1 .if1 .left)) (start .pre .1)))
 
-walk-sub-visit : (t : ℕ) → walk-lts.Need-sub-visit (
-  follows-reads.Asked,
-  follows-reads.Learnt,
-  next-reads.Asked,
-  next-reads.Learnt,
-  visit-below t,
-  visit.Post,
-) (walk-at t) walk.Post walk-Inv-loop walk-μ-loop
-walk-sub-visit t c = omega (arith, c .before .before .before .before .before .before .before .before .before .before .before .before .before .pre .1 .0)
+  visit-same-length-4 : visit-lts.Need-same-length-4 visit-claims (visit-at t) visit.Post
+  visit-same-length-4 c = search needs
 
-walk-visit-requires : (t : ℕ) → walk-lts.Need-visit-requires (
-  follows-reads.Asked,
-  follows-reads.Learnt,
-  next-reads.Asked,
-  next-reads.Learnt,
-  visit-below t,
-  visit.Post,
-) (walk-at t) walk.Post walk-Inv-loop walk-μ-loop
-walk-visit-requires t c κs = let x = c .before .before .before .before .before .before .before .before .before .before .before .before .before .before .before .before .args in
-    let p = c .before .before .before .before .before .before .before .before .before .before .before .before .before .before .before .before .pre .1 in
-    let l = c .before .before .before .before .before .before .before .before .before .before .before .loop in
-    (omega (arith, p .0), enter (x .h) (x .left) (x .a) (x .work .now) (x .begun .now) (x .roots .now) (x .t) (p .0) (p .1) (l .g) (omega arith) (l .work) (l .begun) (l .roots) (l .all) (l .inv .1) (sym (c .before .before .before .before .before .before .before .before .follows .ensures) ∙ c .before .before .before .before .before .before .before .if1 .taken) _ (c .before .before .before .before .before .next .ensures))
+  visit-same-length-5 : visit-lts.Need-same-length-5 visit-claims (visit-at t) visit.Post
+  visit-same-length-5 c = search needs
 
-walk-add-g : (t : ℕ) → walk-lts.Need-add-g (
-  follows-reads.Asked,
-  follows-reads.Learnt,
-  next-reads.Asked,
-  next-reads.Learnt,
-  visit-below t,
-  visit.Post,
-) (walk-at t) walk.Post walk-Inv-loop walk-μ-loop
-walk-add-g t c = omega (arith, modulus-small (c .before .before .before .before .before .before .before .before .before .args .h .q) (c .before .before .before .before .before .before .before .before .before .pre .1 .1 .shaped .field))
+  visit-same-length-6 : visit-lts.Need-same-length-6 visit-claims (visit-at t) visit.Post
+  visit-same-length-6 c = search needs
 
-walk-loop-less : (t : ℕ) → walk-lts.Need-loop-less (
-  follows-reads.Asked,
-  follows-reads.Learnt,
-  next-reads.Asked,
-  next-reads.Learnt,
-  visit-below t,
-  visit.Post,
-) (walk-at t) walk.Post walk-Inv-loop walk-μ-loop
-walk-loop-less t c = search needs
+  visit-returns-2 : visit-lts.Need-returns-2 visit-claims (visit-at t) visit.Post
+  visit-returns-2 c =
+      let at-walk = c .before .before .before .before .before .before in
+      let at-if1 = at-walk .before .before .before .before .before in
+      let start = at-if1 .before .before .before .before in
+      let x = start .args in
+      searched-visit _ _ (tried-some (x .h) (x .left) (x .a) (x .work .now) (at-if1 .if1 .left)) (at-walk .walk .ensures)
 
-walk-loop-again : (t : ℕ) → walk-lts.Need-loop-again (
-  follows-reads.Asked,
-  follows-reads.Learnt,
-  next-reads.Asked,
-  next-reads.Learnt,
-  visit-below t,
-  visit.Post,
-) (walk-at t) walk.Post walk-Inv-loop walk-μ-loop
-walk-loop-again t c = let x = c .before .before .before .before .before .before .before .before .before .args in
-    let p = c .before .before .before .before .before .before .before .before .before .pre .1 in
-    let l = c .before .before .before .before .loop in (
-      omega arith,
-      ⊎-elim
-          (λ w. searched-at (leave (x .h) (x .left) (x .a) (x .work .now) (x .begun .now) (x .roots .now) (x .t) (p .0) (p .1) (l .g) (omega arith) (l .work) (l .begun) (l .roots) (l .all) (l .inv .1) (sym (c .before .follows .ensures) ∙ w .0 .taken) _ (w .2 .ensures) _ _ _ _ (w .8 .ensures)) (w .15) (w .16) (w .17) (w .18))
-          (λ w. searched-at (seen-miss (x .h) (x .left) (x .a) (x .work .now) (x .begun .now) (x .roots .now) (x .t) (p .0) (p .1) (l .g) (omega arith) (l .work) (l .begun) (l .roots) (l .all) (l .inv .1) (sym (c .before .follows .ensures) ∙ w .0 .left)) (w .1) (w .2) (w .3) (w .4))
-          (c .if1 .came),
-    )
+  walk-sub-place : walk-lts.Need-sub-place walk-claims (walk-at t) walk.Post walk-Inv-loop walk-μ-loop
+  walk-sub-place c = omega (arith, c .before .before .before .before .pre .1 .1 .placed)
 
-walk-same-length : (t : ℕ) → walk-lts.Need-same-length (
-  follows-reads.Asked,
-  follows-reads.Learnt,
-  next-reads.Asked,
-  next-reads.Learnt,
-  visit-below t,
-  visit.Post,
-) (walk-at t) walk.Post walk-Inv-loop walk-μ-loop
-walk-same-length t c = c .before .loop .inv .1 .slots
+  walk-add-after : walk-lts.Need-add-after walk-claims (walk-at t) walk.Post walk-Inv-loop walk-μ-loop
+  walk-add-after c =
+      let start = c .before .before .before .before in
+      let x = start .args in
+      let p = start .pre .1 in
+      omega (arith, p .1 .slots, p .1 .shaped .tall, peel (x .left) (size (x .h)) (p .0))
 
-walk-same-length-2 : (t : ℕ) → walk-lts.Need-same-length-2 (
-  follows-reads.Asked,
-  follows-reads.Learnt,
-  next-reads.Asked,
-  next-reads.Learnt,
-  visit-below t,
-  visit.Post,
-) (walk-at t) walk.Post walk-Inv-loop walk-μ-loop
-walk-same-length-2 t c = c .before .loop .inv .1 .beginning
+  walk-mul-after : walk-lts.Need-mul-after walk-claims (walk-at t) walk.Post walk-Inv-loop walk-μ-loop
+  walk-mul-after c =
+      let start = c .before .before .before .before in
+      let x = start .args in
+      let p = start .pre .1 in
+      omega (arith, p .1 .slots, p .1 .shaped .tall, peel (x .left) (size (x .h)) (p .0))
 
-walk-same-length-3 : (t : ℕ) → walk-lts.Need-same-length-3 (
-  follows-reads.Asked,
-  follows-reads.Learnt,
-  next-reads.Asked,
-  next-reads.Learnt,
-  visit-below t,
-  visit.Post,
-) (walk-at t) walk.Post walk-Inv-loop walk-μ-loop
-walk-same-length-3 t c = c .before .loop .inv .1 .list .len
+  walk-add-after-2 : walk-lts.Need-add-after-2 walk-claims (walk-at t) walk.Post walk-Inv-loop walk-μ-loop
+  walk-add-after-2 c =
+      let start = c .before .before .before .before in
+      let x = start .args in
+      let p = start .pre .1 in
+      omega (arith, p .1 .slots, p .1 .shaped .tall, peel (x .left) (size (x .h)) (p .0))
 
-walk-returns : (t : ℕ) → walk-lts.Need-returns (
-  follows-reads.Asked,
-  follows-reads.Learnt,
-  next-reads.Asked,
-  next-reads.Learnt,
-  visit-below t,
-  visit.Post,
-) (walk-at t) walk.Post walk-Inv-loop walk-μ-loop
-walk-returns t c = let x = c .before .before .before .before .before .before .args in
-    let p = c .before .before .before .before .before .before .pre .1 in
-    let l = c .before .loop in
-    let e : l .g ≡ x .h .q = omega arith in
-    let Q = curve (x .h .w) (x .h .l) (x .a) (x .work .now) in
-    searched-to (l .inv .1) (ap (walked (x .h .q) (x .left - 1) Q) e ∙ sym (found-walked (x .h .q) (x .left) Q (p .0))) (ap (passed (x .h .q) (x .left - 1) Q) e ∙ omega (arith, tried-passed (x .h .q) (x .left) Q (p .0)))
+  walk-loop-holds : walk-lts.Need-loop-holds walk-claims (walk-at t) walk.Post walk-Inv-loop walk-μ-loop
+  walk-loop-holds c = let x = c .before .before .before .before .args in
+      (omega arith, seen-none (x .h) (x .left) (x .a) (x .work .now) (x .begun .now) (x .roots .now) (x .t))
+
+  walk-follows-requires : walk-lts.Need-follows-requires walk-claims (walk-at t) walk.Post walk-Inv-loop walk-μ-loop
+  walk-follows-requires c κs =
+      let start = c .before .before .before .before .before .before .before in
+      let x = start .args in
+      let p = start .pre .1 in
+      let l = c .before .before .loop in
+      let gq : l .g < x .h .q = omega arith in
+      (p .1 .shaped .field, p .1 .shaped .wide, p .1 .shaped .tall, omega (arith, room-next _ _ _ _ _ _ _ (p .0) (p .1) _ gq (l .inv .1)))
+
+  walk-mul-begun : walk-lts.Need-mul-begun walk-claims (walk-at t) walk.Post walk-Inv-loop walk-μ-loop
+  walk-mul-begun c =
+      let at-loop = c .before .before .before .before in
+      let start = at-loop .before .before .before .before .before in
+      let p = start .pre .1 in
+      let l = at-loop .loop in
+      omega (arith, p .0, p .1 .placed, p .1 .beginning, l .inv .1 .beginning)
+
+  walk-slice-write-begun : walk-lts.Need-slice-write-begun walk-claims (walk-at t) walk.Post walk-Inv-loop walk-μ-loop
+  walk-slice-write-begun c =
+      let at-loop = c .before .before .before .before in
+      let start = at-loop .before .before .before .before .before in
+      let p = start .pre .1 in
+      let l = at-loop .loop in
+      omega (arith, p .0, p .1 .placed, p .1 .beginning, l .inv .1 .beginning)
+
+  walk-next-requires : walk-lts.Need-next-requires walk-claims (walk-at t) walk.Post walk-Inv-loop walk-μ-loop
+  walk-next-requires c κs =
+      let at-loop = c .before .before .before .before .before in
+      let start = at-loop .before .before .before .before .before in
+      let x = start .args in
+      let p = start .pre .1 in
+      let l = at-loop .loop in
+      let gq : l .g < x .h .q = omega arith in (
+        p .1 .shaped .field,
+        omega arith,
+        p .1 .shaped .wide,
+        p .1 .shaped .tall,
+        p .1 .spare,
+        room-next _ _ _ _ _ _ _ (p .0) (p .1) _ gq (l .inv .1),
+        same-low _ _ _ _ _ _ _ (p .0) (p .1) _ gq (l .inv .1),
+      )
+
+  walk-sub-visit : walk-lts.Need-sub-visit walk-claims (walk-at t) walk.Post walk-Inv-loop walk-μ-loop
+  walk-sub-visit c =
+      let start = c .before .before .before .before .before .before .before .before .before .before .before .before .before in
+      omega (arith, start .pre .1 .0)
+
+  walk-visit-requires : walk-lts.Need-visit-requires walk-claims (walk-at t) walk.Post walk-Inv-loop walk-μ-loop
+  walk-visit-requires c κs =
+      let at-next = c .before .before .before .before .before in
+      let at-if1 = at-next .before .before in
+      let at-follows = at-if1 .before in
+      let at-loop = at-follows .before .before .before in
+      let start = at-loop .before .before .before .before .before in
+      let x = start .args in
+      let p = start .pre .1 in
+      let l = at-loop .loop in
+      let gq : l .g < x .h .q = omega arith in (
+        omega (arith, p .0),
+        enter _ _ _ _ _ _ _ (p .0) (p .1) _ gq (l .inv .1) (sym (at-follows .follows .ensures) ∙ at-if1 .if1 .taken) (at-next .next .ensures),
+      )
+
+  walk-add-g : walk-lts.Need-add-g walk-claims (walk-at t) walk.Post walk-Inv-loop walk-μ-loop
+  walk-add-g c =
+      let start = c .before .before .before .before .before .before .before .before .before in
+      omega (arith, modulus-small (start .args .h .q) (start .pre .1 .1 .shaped .field))
+
+  walk-loop-less : walk-lts.Need-loop-less walk-claims (walk-at t) walk.Post walk-Inv-loop walk-μ-loop
+  walk-loop-less c = search needs
+
+  walk-loop-again : walk-lts.Need-loop-again walk-claims (walk-at t) walk.Post walk-Inv-loop walk-μ-loop
+  walk-loop-again c =
+      let at-loop = c .before .before .before .before in
+      let start = at-loop .before .before .before .before .before in
+      let x = start .args in
+      let p = start .pre .1 in
+      let l = at-loop .loop in
+      let gq : l .g < x .h .q = omega arith in (
+        omega arith,
+        ⊎-elim
+            (λ w. searched-at (leave _ _ _ _ _ _ _ (p .0) (p .1) _ gq (l .inv .1) (sym (c .before .follows .ensures) ∙ w .0 .taken) (w .2 .ensures)
+            (w .8 .ensures)) (w .15) (w .16) (w .17) (w .18))
+            (λ w. searched-at (seen-miss _ _ _ _ _ _ _ (p .0) (p .1) _ gq (l .inv .1) (sym (c .before .follows .ensures) ∙ w .0 .left)) (w .1) (w .2)
+            (w .3) (w .4))
+            (c .if1 .came),
+      )
+
+  walk-same-length : walk-lts.Need-same-length walk-claims (walk-at t) walk.Post walk-Inv-loop walk-μ-loop
+  walk-same-length c = c .before .loop .inv .1 .slots
+
+  walk-same-length-2 : walk-lts.Need-same-length-2 walk-claims (walk-at t) walk.Post walk-Inv-loop walk-μ-loop
+  walk-same-length-2 c = c .before .loop .inv .1 .beginning
+
+  walk-same-length-3 : walk-lts.Need-same-length-3 walk-claims (walk-at t) walk.Post walk-Inv-loop walk-μ-loop
+  walk-same-length-3 c = c .before .loop .inv .1 .list .len
+
+  walk-returns : walk-lts.Need-returns walk-claims (walk-at t) walk.Post walk-Inv-loop walk-μ-loop
+  walk-returns c =
+      let start = c .before .before .before .before .before .before in
+      let x = start .args in
+      let p = start .pre .1 in
+      let l = c .before .loop in
+      let e : l .g ≡ x .h .q = omega arith in
+      let Q = curve (x .h .w) (x .h .l) (x .a) (x .work .now) in
+      searched-to (l .inv .1) (ap (walked (x .h .q) (x .left - 1) Q) e ∙ sym (found-walked (x .h .q) (x .left) Q (p .0)))
+      (ap (passed (x .h .q) (x .left - 1) Q) e ∙ omega (arith, tried-passed (x .h .q) (x .left) Q (p .0)))
 
 pub +visit+walk-spec : {M : Type 1} → statement M
-+visit+walk-spec = close μ-visit μ-walk (λ t. visit-lts.spec (
-  settle-reads.Asked,
-  settle-reads.Learnt,
-  walk-below t,
-  walk.Post,
-)
++visit+walk-spec = close μ-visit μ-walk (λ t. visit-lts.spec (visit-claims t)
     (visit-at t)
     visit.Post
     (visit-settle-requires t)
@@ -379,14 +258,7 @@ pub +visit+walk-spec : {M : Type 1} → statement M
     (visit-same-length-5 t)
     (visit-same-length-6 t)
     (visit-returns-2 t))
-    λ t. walk-lts.spec (
-      follows-reads.Asked,
-      follows-reads.Learnt,
-      next-reads.Asked,
-      next-reads.Learnt,
-      visit-below t,
-      visit.Post,
-    )
+    λ t. walk-lts.spec (walk-claims t)
     (walk-at t)
     walk.Post
     walk-Inv-loop

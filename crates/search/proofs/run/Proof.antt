@@ -1,7 +1,6 @@
 -- run: the curve of the spare is stripped into the first slot behind it, where the visit starts.
 use mathlib.Core.Path.{refl, sym}
 use Prim.Native.Nat.{_+_, _*_}
-use Rattle.search.specs.Slot.{run}
 use Rattle.search.proofs.Heads.{run-front}
 use Rattle.search.proofs.Start.{started, given}
 use native.Mathlib.Omega.{arith}
@@ -22,9 +21,12 @@ slice-aggregate-visit : tie.Need-slice-aggregate-visit
 slice-aggregate-visit c = search needs
 
 visit-requires : tie.Need-visit-requires
-visit-requires c κs = let x = c .before .before .before .before .before .before .before .before .before .args in
+visit-requires c κs =
+    let at-strip = c .before .before .before .before .before in
+    let start = at-strip .before .before .before .before in
+    let x = start .args in
     let S = (x .l + 1) * x .w in
-    started (x .q) (x .k) (x .w) (x .l) (run 0 S (x .work .now)) (x .work .now) (x .roots .now) (x .t) (c .before .before .before .before .before .before .before .before .before .pre) (x .work .now) _ refl (λ j m. sym (run-front S (x .work .now) j m)) (c .before .before .before .before .before .strip .ensures) _ (omega (arith, c .before .before .before .before .before .before .before .before .before .pre .few))
+    started (start .pre) (at-strip .strip .ensures) refl (λ j m. sym (run-front S (x .work .now) j m)) _ (omega (arith, start .pre .few))
 
 same-length : tie.Need-same-length
 same-length c = search needs
@@ -33,9 +35,13 @@ same-length-2 : tie.Need-same-length-2
 same-length-2 c = search needs
 
 returns : tie.Need-returns
-returns c = let x = c .before .before .before .before .before .before .before .before .before .before .before .before .before .before .before .args in
+returns c =
+    let at-visit = c .before .before .before .before .before in
+    let at-strip = at-visit .before .before .before .before .before .before in
+    let start = at-strip .before .before .before .before in
+    let x = start .args in
     let S = (x .l + 1) * x .w in
-    given (x .q) (x .k) (x .w) (x .l) (run 0 S (x .work .now)) (x .work .now) (x .roots .now) (x .t) (c .before .before .before .before .before .before .before .before .before .before .before .before .before .before .before .pre) (x .work .now) _ refl (λ j m. sym (run-front S (x .work .now) j m)) (c .before .before .before .before .before .before .before .before .before .before .before .strip .ensures) (c .before .before .before .before .before .visit .ensures)
+    given (start .pre) (at-strip .strip .ensures) refl (λ j m. sym (run-front S (x .work .now) j m)) (at-visit .visit .ensures)
 
 pub run-spec : {M : Type 1} → statement M
 run-spec =

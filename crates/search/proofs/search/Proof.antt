@@ -1,10 +1,6 @@
 -- search: the curve is copied to the spare, and the search starts with nothing counted.
-use Prim.Native.Nat.{_+_, _-_, _*_}
-use native.Mathlib.Nat.{add-mul}
-use borrow.Rule.Slice.PartMut.{putMid}
-use Rattle.search.specs.Search.{none}
-use Rattle.search.proofs.Start.{copied-front, asked-spare, roots-front}
-use native.Mathlib.Omega.{arith}
+use Prim.Native.Nat.{_-_}
+use Rattle.search.proofs.Start.{copied-spare, roots-front}
 use borrow.Author.Needs.{needs}
 use Rattle.search.proofs.search.Statement.{statement}
 use Rattle.search.proofs.search.Tie as tie
@@ -28,12 +24,10 @@ copy-requires : tie.Need-copy-requires
 copy-requires c κs = search needs
 
 count-requires : tie.Need-count-requires
-count-requires c κs = let x = c .before .before .before .before .before .before .before .before .before .args in
-    let p = c .before .before .before .before .before .before .before .before .before .pre in
-    let S = (x .l + 1) * x .w in
-    let f = copied-front S (S - 0) (x .work .now) (c .before .before .before .before .copy .last .1 .0) (x .curve .now) (omega arith) (omega (arith, p .slots, add-mul (x .k) 2 S)) (p .long) (c .before .before .before .before .copy .ensures) in
-    let a = asked-spare (x .q) (x .k) (x .w) (x .l) (x .curve .now) (x .work .now) (putMid 0 (S - 0) (x .work .now) (c .before .before .before .before .copy .last .1 .0)) (x .roots .now) none p (f .0) (f .1) in
-    a .1
+count-requires c κs =
+    let at-copy = c .before .before .before .before in
+    let start = at-copy .before .before .before .before .before in
+    copied-spare _ (start .pre) (at-copy .copy .ensures) .2
 
 same-length : tie.Need-same-length
 same-length c = search needs
@@ -42,12 +36,12 @@ same-length-2 : tie.Need-same-length-2
 same-length-2 c = search needs
 
 returns : tie.Need-returns
-returns c = let x = c .before .before .before .before .before .before .before .before .before .before .before .before .before .before .args in
-    let p = c .before .before .before .before .before .before .before .before .before .before .before .before .before .before .pre in
-    let S = (x .l + 1) * x .w in
-    let f = copied-front S (S - 0) (x .work .now) (c .before .before .before .before .before .before .before .before .before .copy .last .1 .0) (x .curve .now) (omega arith) (omega (arith, p .slots, add-mul (x .k) 2 S)) (p .long) (c .before .before .before .before .before .before .before .before .before .copy .ensures) in
-    let a = asked-spare (x .q) (x .k) (x .w) (x .l) (x .curve .now) (x .work .now) (putMid 0 (S - 0) (x .work .now) (c .before .before .before .before .before .before .before .before .before .copy .last .1 .0)) (x .roots .now) none p (f .0) (f .1) in
-    roots-front (x .q) (x .k) (x .w) (x .l) (x .curve .now) (x .work .now) (putMid 0 (S - 0) (x .work .now) (c .before .before .before .before .before .before .before .before .before .copy .last .1 .0)) (x .roots .now) _ _ _ p (f .0) (rw (a .0) at (c .before .before .before .before .count .ensures))
+returns c =
+    let at-count = c .before .before .before .before in
+    let at-copy = at-count .before .before .before .before .before in
+    let start = at-copy .before .before .before .before .before in
+    let copied = copied-spare _ (start .pre) (at-copy .copy .ensures) in
+    roots-front (start .pre) (copied .0) (rw (copied .1) at (at-count .count .ensures))
 
 pub search-spec : {M : Type 1} → statement M
 search-spec =

@@ -20,7 +20,9 @@ unfolding sum below from
 loop-holds c = (search needs, search needs, refl, search needs)
 
 sub-u : tie.Need-sub-u Inv-loop μ-loop
-sub-u c = omega (arith, product (c .before .loop .t) (c .before .before .args .k - 1) (c .before .before .args .l) (c .before .before .args .k - 1) (omega arith) (omega arith))
+sub-u c =
+    let x = c .before .before .args in
+    omega (arith, product (c .before .loop .t) (x .k - 1) (x .l) (x .k - 1) (omega arith) (omega arith))
 
 add-u : tie.Need-add-u Inv-loop μ-loop
 add-u c = search needs
@@ -29,7 +31,9 @@ sub-off : tie.Need-sub-off Inv-loop μ-loop
 sub-off c = search needs
 
 add-off : tie.Need-add-off Inv-loop μ-loop
-add-off c = omega (arith, product (c .before .loop .t) (c .before .before .args .k - 1) (c .before .before .args .l) (c .before .before .args .k - 1) (omega arith) (omega arith))
+add-off c =
+    let x = c .before .before .args in
+    omega (arith, product (c .before .loop .t) (x .k - 1) (x .l) (x .k - 1) (omega arith) (omega arith))
 
 add-t : tie.Need-add-t Inv-loop μ-loop
 add-t c = search needs
@@ -38,12 +42,10 @@ loop-less : tie.Need-loop-less Inv-loop μ-loop
 loop-less c = search needs
 
 loop-again : tie.Need-loop-again Inv-loop μ-loop
-loop-again c = (
-  search needs,
-  omega (arith, add-mul (c .before .loop .t) 1 (c .before .before .args .k - 1)),
-  omega (arith, sum-below (λ i. c .before .before .args .w - i * (c .before .before .args .k - 1)) (c .before .loop .t)),
-  search needs,
-)
+loop-again c =
+    let x = c .before .before .args in
+    let t = c .before .loop .t in
+    (search needs, omega (arith, add-mul t 1 (x .k - 1)), omega (arith, sum-below (λ i. x .w - i * (x .k - 1)) t), search needs)
 
 returns : tie.Need-returns Inv-loop μ-loop
 returns c = let end : c .before .loop .t ≡ c .before .before .args .l + 1 = omega arith in cc

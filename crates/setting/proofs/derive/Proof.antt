@@ -27,18 +27,24 @@ refused-requires-2 c κs = search needs
 
 returns-2 : tie.Need-returns-2
 returns-2 c =
+    let at-is-modulus = c .before .before .before .before in
+    let start = at-is-modulus .before in
     c .refused2 .ensures
     ∙ case-2 _
-    (sym (c .before .before .before .before .is-modulus .ensures) ∙ not-false _ (c .before .before .before .if1 .left))
-    (sym (c .before .before .in-ranges .ensures (c .before .before .before .before .before .args .p)) ∙ not-true _ (c .before .if2 .taken))
+    (sym (at-is-modulus .is-modulus .ensures) ∙ not-false _ (c .before .before .before .if1 .left))
+    (sym (c .before .before .in-ranges .ensures (start .args .p)) ∙ not-true _ (c .before .if2 .taken))
 
 numbers-requires : tie.Need-numbers-requires
 numbers-requires c κs =
-    ranged (asked (c .before .before .before .before .args .p) _ _ _ _)
-    (rw (sym (c .before .in-ranges .ensures (c .before .before .before .before .args .p)) ∙ not-false _ (c .if2 .left)) tt)
+    let start = c .before .before .before .before in
+    ranged (asked (start .args .p) _ _ _ _)
+    (rw (sym (c .before .in-ranges .ensures (start .args .p)) ∙ not-false _ (c .if2 .left)) tt)
 
 returns-3 : tie.Need-returns-3
-returns-3 c = c .numbers .ensures (c .before .before .before .before .before .args .p) (sym (c .before .before .before .before .is-modulus .ensures) ∙ not-false _ (c .before .before .before .if1 .left))
+returns-3 c =
+    let at-is-modulus = c .before .before .before .before in
+    let start = at-is-modulus .before in
+    c .numbers .ensures (start .args .p) (sym (at-is-modulus .is-modulus .ensures) ∙ not-false _ (c .before .before .before .if1 .left))
 
 pub derive-spec : {M : Type 1} → statement M
 derive-spec =

@@ -21,7 +21,8 @@ returns-3 : tie.Need-returns-3
 returns-3 c = λ p. not-ranged (asked p _ _ _ _) (λ h. omega arith)
 
 returns-4 : tie.Need-returns-4
-returns-4 c = λ p. ranged-last (asked p _ _ _ _) (sym (c .before .before .before .code-in-ranges .ensures) ∙ not-false _ (c .before .before .if1 .left)) (omega arith) (omega arith)
+returns-4 c = λ p. ranged-last (asked p _ _ _ _)
+    (sym (c .before .before .before .code-in-ranges .ensures) ∙ not-false _ (c .before .before .if1 .left)) (omega arith) (omega arith)
 
 pub in-ranges-spec : {M : Type 1} → statement M
 in-ranges-spec = tie.close (tie.spec code-in-ranges-requires returns returns-2 returns-3 returns-4)

@@ -23,10 +23,14 @@ refused-requires : tie.Need-refused-requires
 refused-requires c κs = search needs
 
 returns : tie.Need-returns
-returns c = λ p a.
+returns c =
+    let at-last-power = c .before .before .before .before in
+    let at-degree-bound = at-last-power .before in
+    let start = at-degree-bound .before in
+    λ p a.
     c .refused .ensures
-    ∙ case-3 (asked p _ _ _ _) a (c .before .before .before .before .before .before .pre)
-    (numbers-are (asked p _ _ _ _) (c .before .before .before .before .before .degree-bound .ensures) (c .before .before .before .before .last-power .ensures)
+    ∙ case-3 (asked p _ _ _ _) a (start .pre)
+    (numbers-are (asked p _ _ _ _) (at-degree-bound .degree-bound .ensures) (at-last-power .last-power .ensures)
     (c .before .before .before .conditions .ensures) (c .before .before .coefficients .ensures))
     (omega arith)
 
@@ -34,21 +38,31 @@ refused-requires-2 : tie.Need-refused-requires-2
 refused-requires-2 c κs = search needs
 
 returns-2 : tie.Need-returns-2
-returns-2 c = λ p a.
+returns-2 c =
+    let at-conditions = c .before .before .before .before in
+    let at-last-power = at-conditions .before in
+    let at-degree-bound = at-last-power .before in
+    let start = at-degree-bound .before in
+    λ p a.
     c .refused2 .ensures
-    ∙ case-4 (asked p _ _ _ _) a (c .before .before .before .before .before .before .before .pre)
-    (numbers-are (asked p _ _ _ _) (c .before .before .before .before .before .before .degree-bound .ensures) (c .before .before .before .before .before .last-power .ensures)
-    (c .before .before .before .before .conditions .ensures) (c .before .before .before .coefficients .ensures))
+    ∙ case-4 (asked p _ _ _ _) a (start .pre)
+    (numbers-are (asked p _ _ _ _) (at-degree-bound .degree-bound .ensures) (at-last-power .last-power .ensures)
+    (at-conditions .conditions .ensures) (c .before .before .before .coefficients .ensures))
     (omega arith) (omega arith)
 
 work-room-requires : tie.Need-work-room-requires
 work-room-requires c κs = search needs
 
 returns-3 : tie.Need-returns-3
-returns-3 c = λ p a.
-    case-0 (asked p _ _ _ _) a (c .before .before .before .before .before .before .before .pre)
-    (numbers-are (asked p _ _ _ _) (c .before .before .before .before .before .before .degree-bound .ensures) (c .before .before .before .before .before .last-power .ensures)
-    (c .before .before .before .before .conditions .ensures) (c .before .before .before .coefficients .ensures))
+returns-3 c =
+    let at-conditions = c .before .before .before .before in
+    let at-last-power = at-conditions .before in
+    let at-degree-bound = at-last-power .before in
+    let start = at-degree-bound .before in
+    λ p a.
+    case-0 (asked p _ _ _ _) a (start .pre)
+    (numbers-are (asked p _ _ _ _) (at-degree-bound .degree-bound .ensures) (at-last-power .last-power .ensures)
+    (at-conditions .conditions .ensures) (c .before .before .before .coefficients .ensures))
     (omega arith) (omega arith) (c .work-room .ensures)
 
 pub numbers-spec : {M : Type 1} → statement M

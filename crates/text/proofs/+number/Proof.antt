@@ -1,6 +1,6 @@
 -- number: it follows the definition of the digits, from the last one back.
 use mathlib.Core.Path.{_≡_, sym, ap, _∙_}
-use mathlib.Core.List.{List, [], _∷_, _++_}
+use mathlib.Core.List.{[], _∷_, _++_}
 use Prim.Native.Nat.{ℕ, _+_, _/_, _^_, _<_, _≤_}
 use native.Mathlib.Omega.{arith}
 use lib.ListN.{length, length-append}
@@ -27,46 +27,67 @@ number-at t = and 1 number-kinds.ps (is 1 number-kinds.ps μ-number t) number.Pr
 abbrev number-below : ℕ → In 1 number-kinds.ps
 number-below t = and 1 number-kinds.ps (falls 1 number-kinds.ps _<_ μ-number t) number.Pre
 
-small-room : (n at : ℕ) (d : List ℕ) → n < 10 → at + length (digits n) ≤ length d → at < length d
-small-room n at d l h = omega (arith, ap length (digits-small n l))
-
 -- what is said of a number of more than one digit
 long : (n : ℕ) → 10 ≤ n → n < 2 ^ 64 → length (digits n) ≡ length (digits (n / 10)) + 1
 long n l h = simp length-append at (ap length (digits-more n l h))
 
-number-digit-requires : (t : ℕ) → number-lts.Need-digit-requires (digit-reads.Asked, digit-reads.Learnt, put-reads.Asked, put-reads.Learnt, number-below t, number.Post) (number-at t) number.Post
-number-digit-requires t c κs = search needs
+-- the answers at the value t of the measure
+module _ (t : ℕ) where
+  -- what the calls ask and give
+  abbrev claims : number-lts.Claims
+  claims = (digit-reads.Asked, digit-reads.Learnt, put-reads.Asked, put-reads.Learnt, number-below t, number.Post)
 
-number-put-requires : (t : ℕ) → number-lts.Need-put-requires (digit-reads.Asked, digit-reads.Learnt, put-reads.Asked, put-reads.Learnt, number-below t, number.Post) (number-at t) number.Post
-number-put-requires t c κs = let x = c .before .before .before .before in omega (arith, ap length (digits-small (x .args .n) (omega arith)))
+  number-digit-requires : number-lts.Need-digit-requires claims (number-at t) number.Post
+  number-digit-requires c κs = search needs
 
-number-number-requires : (t : ℕ) → number-lts.Need-number-requires (digit-reads.Asked, digit-reads.Learnt, put-reads.Asked, put-reads.Learnt, number-below t, number.Post) (number-at t) number.Post
-number-number-requires t c κs = let x = c .before .before .before in (omega (arith, x .pre .0), omega (arith, x .pre .1, long (x .args .n) (omega arith) (omega (arith, x .fits .n))))
+  number-put-requires : number-lts.Need-put-requires claims (number-at t) number.Post
+  number-put-requires c κs = let x = c .before .before .before .before in omega (arith, ap length (digits-small (x .args .n) (omega arith)))
 
-number-digit-requires-2 : (t : ℕ) → number-lts.Need-digit-requires-2 (digit-reads.Asked, digit-reads.Learnt, put-reads.Asked, put-reads.Learnt, number-below t, number.Post) (number-at t) number.Post
-number-digit-requires-2 t c κs = search needs
+  number-number-requires : number-lts.Need-number-requires claims (number-at t) number.Post
+  number-number-requires c κs =
+      let start = c .before .before .before in
+      (omega (arith, start .pre .0), omega (arith, start .pre .1, long (start .args .n) (omega arith) (omega (arith, start .fits .n))))
 
-number-put-requires-2 : (t : ℕ) → number-lts.Need-put-requires-2 (digit-reads.Asked, digit-reads.Learnt, put-reads.Asked, put-reads.Learnt, number-below t, number.Post) (number-at t) number.Post
-number-put-requires-2 t c κs = let y = c .before .before .before .before in let x = y .before .before .before .before in
-    omega (arith, x .pre .1, long (x .args .n) (omega arith) (omega (arith, x .fits .n)), y .number .ensures .next, wrote-len (y .number .ensures))
+  number-digit-requires-2 : number-lts.Need-digit-requires-2 claims (number-at t) number.Post
+  number-digit-requires-2 c κs = search needs
 
-number-same-length : (t : ℕ) → number-lts.Need-same-length (digit-reads.Asked, digit-reads.Learnt, put-reads.Asked, put-reads.Learnt, number-below t, number.Post) (number-at t) number.Post
-number-same-length t c = search needs
+  number-put-requires-2 : number-lts.Need-put-requires-2 claims (number-at t) number.Post
+  number-put-requires-2 c κs =
+      let at-number = c .before .before .before .before in
+      let start = at-number .before .before .before .before in
+      omega (
+        arith,
+        start .pre .1,
+        long (start .args .n) (omega arith) (omega (arith, start .fits .n)),
+        at-number .number .ensures .next,
+        wrote-len (at-number .number .ensures),
+      )
 
-number-returns : (t : ℕ) → number-lts.Need-returns (digit-reads.Asked, digit-reads.Learnt, put-reads.Asked, put-reads.Learnt, number-below t, number.Post) (number-at t) number.Post
-number-returns t c = let p = c .before .before in let x = p .before .before .before .before .before in
-    wrote-as (p .put .ensures) (ap (λ (k : ℕ). k ∷ []) (p .before .before .digit .ensures) ∙ sym (digits-small (x .args .n) (omega arith)))
+  number-same-length : number-lts.Need-same-length claims (number-at t) number.Post
+  number-same-length c = search needs
 
-number-same-length-2 : (t : ℕ) → number-lts.Need-same-length-2 (digit-reads.Asked, digit-reads.Learnt, put-reads.Asked, put-reads.Learnt, number-below t, number.Post) (number-at t) number.Post
-number-same-length-2 t c = search needs
+  number-returns : number-lts.Need-returns claims (number-at t) number.Post
+  number-returns c =
+      let at-put = c .before .before in
+      let at-digit = at-put .before .before in
+      let start = at-digit .before .before .before in
+      wrote-as (at-put .put .ensures) (ap (λ (k : ℕ). k ∷ []) (at-digit .digit .ensures) ∙ sym (digits-small (start .args .n) (omega arith)))
 
-number-returns-2 : (t : ℕ) → number-lts.Need-returns-2 (digit-reads.Asked, digit-reads.Learnt, put-reads.Asked, put-reads.Learnt, number-below t, number.Post) (number-at t) number.Post
-number-returns-2 t c = let p = c .before .before in let x = p .before .before .before .before .before .before .before .before .before in
-    wrote-as (wrote-then (p .before .before .before .before .before .number .ensures) (p .put2 .ensures))
-    (ap (λ (k : ℕ). digits (x .args .n / 10) ++ (k ∷ [])) (p .before .before .digit2 .ensures) ∙ sym (digits-more (x .args .n) (omega arith) (omega (arith, x .fits .n))))
+  number-same-length-2 : number-lts.Need-same-length-2 claims (number-at t) number.Post
+  number-same-length-2 c = search needs
+
+  number-returns-2 : number-lts.Need-returns-2 claims (number-at t) number.Post
+  number-returns-2 c =
+      let at-put2 = c .before .before in
+      let at-digit2 = at-put2 .before .before in
+      let at-number = at-digit2 .before .before .before in
+      let start = at-number .before .before .before .before in
+      wrote-as (wrote-then (at-number .number .ensures) (at-put2 .put2 .ensures))
+      (ap (λ (k : ℕ). digits (start .args .n / 10) ++ (k ∷ [])) (at-digit2 .digit2 .ensures)
+      ∙ sym (digits-more (start .args .n) (omega arith) (omega (arith, start .fits .n))))
 
 pub +number-spec : {M : Type 1} → statement M
-+number-spec = close μ-number λ t. number-lts.spec (digit-reads.Asked, digit-reads.Learnt, put-reads.Asked, put-reads.Learnt, number-below t, number.Post)
++number-spec = close μ-number λ t. number-lts.spec (claims t)
     (number-at t)
     number.Post
     (number-digit-requires t)

@@ -35,9 +35,9 @@ wide-requires c κs = search needs
 
 number-requires : tie.Need-number-requires Inv-loop μ-loop
 number-requires c κs =
-    let at-loop = c .before .before .before .before .before .before .before .before in
-    let p = c .before .before .before .before .before in
-    omega (arith, digits-few 4 (c .before .wide .result) (omega arith), p .put .ensures .next, wrote-len (p .put .ensures), at-loop .loop .inv)
+    let at-put = c .before .before .before .before .before in
+    let at-loop = at-put .before .before .before in
+    omega (arith, digits-few 4 (c .before .wide .result) (omega arith), at-put .put .ensures .next, wrote-len (at-put .put .ensures), at-loop .loop .inv)
 
 add-i : tie.Need-add-i Inv-loop μ-loop
 add-i c = search needs
@@ -47,18 +47,19 @@ loop-less c = search needs
 
 loop-again : tie.Need-loop-again Inv-loop μ-loop
 loop-again c =
-    let at-wide = c .before .before .before .before in
-    let at-loop-test = at-wide .before .before .before .before .before .before in
+    let at-number = c .before .before in
+    let at-wide = at-number .before .before in
+    let at-put = at-wide .before .before .before .before in
+    let at-loop-test = at-put .before .before in
     let at-loop = at-loop-test .before in
-    let at-start = at-loop .before .before .before in
-    let m = c .before .before in
-    let p = c .before .before .before .before .before .before .before .before in
+    let start = at-loop .before .before .before in
     let l = at-loop .loop in
     let w = at-wide .wide in (
       omega arith,
-      omega (arith, digits-few 4 (w .result) (omega arith), m .number .ensures .next, p .put .ensures .next),
-      wrote-len (m .number .ensures) ∙ wrote-len (p .put .ensures) ∙ l .inv .2,
-      wrote-as (wrote-then (l .inv .3) (wrote-then (p .put .ensures) (m .number .ensures))) (spaced-more (at-start .args .fields .now) (l .i) (w .result) (at-loop-test .loop-test .taken) (w .ensures .0)),
+      omega (arith, digits-few 4 (w .result) (omega arith), at-number .number .ensures .next, at-put .put .ensures .next),
+      wrote-len (at-number .number .ensures) ∙ wrote-len (at-put .put .ensures) ∙ l .inv .2,
+      wrote-as (wrote-then (l .inv .3) (wrote-then (at-put .put .ensures) (at-number .number .ensures)))
+          (spaced-more (start .args .fields .now) (l .i) (w .result) (at-loop-test .loop-test .taken) (w .ensures .0)),
     )
 
 same-length : tie.Need-same-length Inv-loop μ-loop

@@ -9,7 +9,9 @@ put-requires : tie.Need-put-requires
 put-requires c κs = search needs
 
 numbers-requires : tie.Need-numbers-requires
-numbers-requires c κs = omega (arith, c .before .before .before .put .ensures .next, wrote-len (c .before .before .before .put .ensures))
+numbers-requires c κs =
+    let at-put = c .before .before .before in
+    omega (arith, at-put .put .ensures .next, wrote-len (at-put .put .ensures))
 
 put-requires-2 : tie.Need-put-requires-2
 put-requires-2 c κs =
@@ -25,9 +27,9 @@ returns c =
     let at-put2 = c .before .before in
     let at-numbers = at-put2 .before .before .before .before in
     let at-put = at-numbers .before .before .before .before in
-    let at-start = at-put .before .before .before .before in (
+    let start = at-put .before .before .before .before in (
       omega (arith, at-put .put .ensures .next, at-numbers .numbers .ensures .0, at-put2 .put2 .ensures .next),
-      wrote-line (at-start .args .fields .now) (at-put .put .ensures) (at-numbers .numbers .ensures .1) (at-put2 .put2 .ensures),
+      wrote-line (start .args .fields .now) (at-put .put .ensures) (at-numbers .numbers .ensures .1) (at-put2 .put2 .ensures),
     )
 
 pub plus-line-spec : {M : Type 1} → statement M

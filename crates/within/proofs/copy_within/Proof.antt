@@ -44,11 +44,12 @@ loop-less c = search needs
 
 loop-again : tie.Need-loop-again Inv-loop μ-loop
 loop-again c =
+    let start = c .before .before .before in
     let l = c .before .before .loop in
-    let x = c .before .before .before .args in (
+    let x = start .args in (
       search needs,
       changed-more (x .b + l .i) _ (l .inv .1) (omega arith) (search needs)
-          (read-apart (x .a) (x .b) (x .n) (l .i) (l .inv .1) (c .before .before .before .pre .0) (l .i) (omega arith) (omega arith)),
+          (read-apart (x .a) (x .b) (x .n) (l .i) (l .inv .1) (start .pre .0) (l .i) (omega arith) (omega arith)),
     )
 
 same-length : tie.Need-same-length Inv-loop μ-loop

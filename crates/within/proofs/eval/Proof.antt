@@ -37,11 +37,16 @@ loop-less c = search needs
 loop-again : tie.Need-loop-again Inv-loop μ-loop
 loop-again c =
     let l = c .before .before .before .loop in
-    let x = c .before .before .before .before .before .args in
-    (search needs, c .mixed .ensures ∙ ap (λ (v : ℕ). plus (x .q) (getD (x .f .now) (l .i - 1) 0) (times (x .q) (x .x) v)) (l .inv .1) ∙ eval-more (x .q) (x .f .now) (x .x) (l .i) (omega arith) (omega arith))
+    let x = c .before .before .before .before .before .args in (
+      search needs,
+      c .mixed .ensures ∙ ap (λ (v : ℕ). plus (x .q) (getD (x .f .now) (l .i - 1) 0) (times (x .q) (x .x) v)) (l .inv .1)
+          ∙ eval-more (x .q) (x .f .now) (x .x) (l .i) (omega arith) (omega arith),
+    )
 
 returns : tie.Need-returns Inv-loop μ-loop
-returns c = c .before .loop .inv .1 ∙ eval-all (c .before .before .before .args .q) (c .before .before .before .args .f .now) (c .before .before .before .args .x) (c .before .loop .i) (omega arith)
+returns c =
+    let start = c .before .before .before in
+    c .before .loop .inv .1 ∙ eval-all (start .args .q) (start .args .f .now) (start .args .x) (c .before .loop .i) (omega arith)
 
 pub eval-spec : {M : Type 1} → statement M
 eval-spec =

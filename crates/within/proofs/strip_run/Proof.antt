@@ -52,12 +52,14 @@ loop-less c = search needs
 
 loop-again : tie.Need-loop-again Inv-loop μ-loop
 loop-again c =
+    let start = c .before .before .before in
     let l = c .before .before .loop in
-    let x = c .before .before .before .args in (
+    let x = start .args in (
       search needs,
       changed-more (x .b + l .i) _ (l .inv .1) (omega arith) (search needs)
           (⊎-elim
-          (λ w. w .2 ∙ read-apart (x .a) (x .b) (x .n) (l .i) (l .inv .1) (c .before .before .before .pre .0) (l .i + x .v) (omega arith) (omega (arith, w .0 .taken)) ∙ cut-low (x .work .now) (x .a) (x .v) (x .n) (l .i) (omega (arith, w .0 .taken)))
+          (λ w. w .2 ∙ read-apart (x .a) (x .b) (x .n) (l .i) (l .inv .1) (start .pre .0) (l .i + x .v) (omega arith) (omega (arith, w .0 .taken))
+          ∙ cut-low (x .work .now) (x .a) (x .v) (x .n) (l .i) (omega (arith, w .0 .taken)))
           (λ w. w .1 ∙ cut-high (x .work .now) (x .a) (x .v) (x .n) (l .i) (omega (arith, w .0 .left)))
           (c .if1 .came)),
     )

@@ -1,4 +1,4 @@
--- Safe, and it ends; the buffer keeps its length.
+-- take: safe, and it ends; the buffer keeps its length.
 use mathlib.Core.Path.{_≡_}
 use Prim.Native.Nat.{_≤_, _-_}
 use lib.ListN.{length}

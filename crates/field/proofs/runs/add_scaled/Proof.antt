@@ -49,8 +49,10 @@ loop-less c = search needs
 
 loop-again : tie.Need-loop-again Inv-loop μ-loop
 loop-again c =
-    let l = c .before .before .before .before .loop in
-    let x = c .before .before .before .before .before .before .before .args in (
+    let at-loop = c .before .before .before .before in
+    let start = at-loop .before .before .before in
+    let l = at-loop .loop in
+    let x = start .args in (
       search needs,
       changed-more (l .i) _ (l .inv .1) (omega arith) (search needs)
           (c .mixed .ensures ∙ ap (λ (d : ℕ). plus (x .q) d (times (x .q) (x .c) (getD (x .src .now) (l .i) 0))) (l .inv .1 .high (l .i) (omega arith))),

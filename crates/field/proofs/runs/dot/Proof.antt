@@ -50,15 +50,19 @@ loop-less c = search needs
 
 loop-again : tie.Need-loop-again Inv-loop μ-loop
 loop-again c =
-    let l = c .before .before .before .before .loop in
-    let x = c .before .before .before .before .before .before .before .args in (
+    let at-loop = c .before .before .before .before in
+    let start = at-loop .before .before .before in
+    let l = at-loop .loop in
+    let x = start .args in (
       search needs,
       search needs,
       total-more (x .q) (l .sum) _ (l .i) _ (l .inv .2) (ap (λ (n : ℕ). n % x .q) (c .wide .ensures .0) ∙ times-is (x .q) _ _),
     )
 
 remainder-requires : tie.Need-remainder-requires Inv-loop μ-loop
-remainder-requires c κs = omega (arith, modulus-two (c .before .before .before .before .args .q) (c .before .before .before .before .pre .0))
+remainder-requires c κs =
+    let start = c .before .before .before .before in
+    omega (arith, modulus-two (start .args .q) (start .pre .0))
 
 returns : tie.Need-returns Inv-loop μ-loop
 returns c =

@@ -18,7 +18,8 @@ reduced-requires : tie.Need-reduced-requires
 reduced-requires c κs = omega (arith, modulus-two (c .before .args .q) (c .before .pre))
 
 returns : tie.Need-returns
-returns c = let x = c .before .before .args in c .reduced .ensures ∙ ap (λ (n : ℕ). (x .d + n) % x .q) (c .before .wide .ensures .0) ∙ mixed-is (x .q) (x .d) (x .c) (x .s)
+returns c = let x = c .before .before .args in
+    c .reduced .ensures ∙ ap (λ (n : ℕ). (x .d + n) % x .q) (c .before .wide .ensures .0) ∙ mixed-is (x .q) (x .d) (x .c) (x .s)
 
 pub mixed-spec : {M : Type 1} → statement M
 mixed-spec = tie.close (tie.spec wide-requires add-reduced reduced-requires returns)

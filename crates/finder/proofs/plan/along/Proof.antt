@@ -17,7 +17,8 @@ use Rattle.finder.proofs.plan.along.Tie as tie
 abbrev Inv-loop : tie.InvT-loop
 Inv-loop q k w l alpha n xs y leads₀ work₀ a₀ leads work a =
     (a ≤ n) × (length leads ≡ length leads₀) × (length work ≡ length work₀) × Fit k w l leads ×
-    ((r b m : ℕ) → Weights q alpha n w xs → Row q r b (l + 1) y → Grown q k w l (λ h. map (condition (triple q h alpha r m) b) (below a)) leads₀ leads work₀ work)
+    ((r b m : ℕ) → Weights q alpha n w xs → Row q r b (l + 1) y →
+    Grown q k w l (λ h. map (condition (triple q h alpha r m) b) (below a)) leads₀ leads work₀ work)
 
 abbrev μ-loop : tie.MeasureT-loop
 μ-loop q k w l alpha n xs y leads₀ work₀ a₀ leads work a = n - a
@@ -49,8 +50,14 @@ condition-requires c κs =
     let start = at-loop .before .before .before .before .before in
     let a = start .args in
     let o = at-loop .loop in
-    let p = start .pre in
-    (p .0, len-mid (o .a * 256) (o .a * 256 + a .w - o .a * 256) (a .xs .now) (omega (arith, p .0 .narrow)) ∙ omega arith, p .3, omega (arith, p .4, o .inv .1), o .inv .3, omega (arith, p .6, o .inv .2))
+    let p = start .pre in (
+      p .0,
+      len-mid (o .a * 256) (o .a * 256 + a .w - o .a * 256) (a .xs .now) (omega (arith, p .0 .narrow)) ∙ omega arith,
+      p .3,
+      omega (arith, p .4, o .inv .1),
+      o .inv .3,
+      omega (arith, p .6, o .inv .2),
+    )
 
 add-a : tie.Need-add-a Inv-loop μ-loop
 add-a c = search needs
@@ -63,7 +70,6 @@ loop-again c =
     let at-condition = c .before .before .before .before in
     let at-loop = at-condition .before .before .before .before .before in
     let start = at-loop .before .before .before .before .before in
-    let a = start .args in
     let o = at-loop .loop in
     let p = start .pre in
     let d = at-condition .condition in (
@@ -71,7 +77,8 @@ loop-again c =
       d .kept .1 .1 .1 .1 .1 .1 .1 .0 ∙ o .inv .1,
       d .kept .1 .1 .1 .1 .1 .1 .1 .1 .0 ∙ o .inv .2,
       d .ensures .fit,
-      λ r b m X Y. along-more _ _ _ _ _ r m b (o .a) (o .inv .4 r b m X Y) (d .ensures) (row-part (o .a) X (omega arith) (omega (arith, p .1)) (p .0 .narrow)) Y,
+      λ r b m X Y. along-more _ _ _ _ _ r m b (o .a) (o .inv .4 r b m X Y) (d .ensures)
+          (row-part (o .a) X (omega arith) (omega (arith, p .1)) (p .0 .narrow)) Y,
     )
 
 same-length : tie.Need-same-length Inv-loop μ-loop

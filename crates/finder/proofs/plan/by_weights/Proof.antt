@@ -17,7 +17,8 @@ use Rattle.finder.proofs.plan.by_weights.Tie as tie
 abbrev Inv-loop : tie.InvT-loop
 Inv-loop q k w l alpha m xs ys leads₀ work₀ b₀ leads work b =
     (b ≤ m) × (length leads ≡ length leads₀) × (length work ≡ length work₀) × Fit k w l leads ×
-    ((r : ℕ) → Weights q alpha m w xs → Weights q r m (l + 1) ys → Grown q k w l (λ h. flatMap (conditions-along (triple q h alpha r m)) (below b)) leads₀ leads work₀ work)
+    ((r : ℕ) → Weights q alpha m w xs → Weights q r m (l + 1) ys →
+    Grown q k w l (λ h. flatMap (conditions-along (triple q h alpha r m)) (below b)) leads₀ leads work₀ work)
 
 abbrev μ-loop : tie.MeasureT-loop
 μ-loop q k w l alpha m xs ys leads₀ work₀ b₀ leads work b = m - b
@@ -56,8 +57,15 @@ along-requires c κs =
     let a = start .args in
     let o = at-loop .loop in
     let p = start .pre in
-    let n = a .l + 1 in
-    (p .0, omega (arith, p .1), p .2, len-mid (o .b * 256) (o .b * 256 + n - o .b * 256) (a .ys .now) (omega (arith, p .0 .few)) ∙ omega arith, omega (arith, p .4, o .inv .1), o .inv .3, omega (arith, p .6, o .inv .2))
+    let n = a .l + 1 in (
+      p .0,
+      omega (arith, p .1),
+      p .2,
+      len-mid (o .b * 256) (o .b * 256 + n - o .b * 256) (a .ys .now) (omega (arith, p .0 .few)) ∙ omega arith,
+      omega (arith, p .4, o .inv .1),
+      o .inv .3,
+      omega (arith, p .6, o .inv .2),
+    )
 
 add-b : tie.Need-add-b Inv-loop μ-loop
 add-b c = search needs
@@ -78,7 +86,8 @@ loop-again c =
       d .kept .1 .1 .1 .1 .1 .1 .1 .1 .0 ∙ o .inv .1,
       d .kept .1 .1 .1 .1 .1 .1 .1 .1 .1 .0 ∙ o .inv .2,
       d .ensures .0,
-      λ r X Y. orders-more _ _ _ _ _ r _ (o .b) (o .inv .4 r X Y) (d .ensures .1 r (o .b) (a .m) (fewer X (omega arith)) (row-part (o .b) Y (omega arith) (omega (arith, p .1)) (omega (arith, p .0 .few)))),
+      λ r X Y. orders-more _ _ _ _ _ r _ (o .b) (o .inv .4 r X Y)
+          (d .ensures .1 r (o .b) (a .m) (fewer X (omega arith)) (row-part (o .b) Y (omega arith) (omega (arith, p .1)) (omega (arith, p .0 .few)))),
     )
 
 same-length : tie.Need-same-length Inv-loop μ-loop

@@ -24,8 +24,14 @@ abbrev μ-loop : tie.MeasureT-loop
 
 loop-holds : tie.Need-loop-holds Inv-loop μ-loop
 loop-holds c =
-    let start = c .before .before .before .before .before in
-    (search needs, search needs, search needs, start .pre .5, let a = start .args in triples-none (a .q) (a .k) (a .w) (a .l) (a .points .now) (a .word .now) (a .times .now) _ _)
+    let start = c .before .before .before .before .before in (
+      search needs,
+      search needs,
+      search needs,
+      start .pre .5,
+      let a = start .args in
+          triples-none (a .q) (a .k) (a .w) (a .l) (a .points .now) (a .word .now) (a .times .now) _ _,
+    )
 
 mul-m : tie.Need-mul-m Inv-loop μ-loop
 mul-m c = search needs

@@ -13,7 +13,8 @@ use Rattle.finder.proofs.slots.raise.Statement.{statement}
 use Rattle.finder.proofs.slots.raise.Tie as tie
 
 abbrev Inv-loop : tie.InvT-loop
-Inv-loop q k w l alpha work₀ at c t₀ row₀ off₀ work t row off = (t ≤ l + 1) × (row ≡ at + t * w) × (off ≡ t * (k - 1)) × Treated (raised-at q c w work₀ at) at k w t work₀ work × (c ≡ minus q 0 alpha)
+Inv-loop q k w l alpha work₀ at c t₀ row₀ off₀ work t row off = (t ≤ l + 1) × (row ≡ at + t * w) × (off ≡ t * (k - 1))
+    × Treated (raised-at q c w work₀ at) at k w t work₀ work × (c ≡ minus q 0 alpha)
 
 abbrev μ-loop : tie.MeasureT-loop
 μ-loop q k w l alpha work₀ at c t₀ row₀ off₀ work t row off = l + 1 - t

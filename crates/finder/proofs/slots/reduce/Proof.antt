@@ -12,7 +12,8 @@ use Rattle.finder.proofs.slots.reduce.Statement.{statement}
 use Rattle.finder.proofs.slots.reduce.Tie as tie
 
 abbrev Inv-loop : tie.InvT-loop
-Inv-loop q k w l c work₀ from to t₀ row₀ off₀ work t row off = (t ≤ l + 1) × (row ≡ t * w) × (off ≡ t * (k - 1)) × Treated (mixed-at q c w work₀ from to) to k w t work₀ work
+Inv-loop q k w l c work₀ from to t₀ row₀ off₀ work t row off = (t ≤ l + 1) × (row ≡ t * w) × (off ≡ t * (k - 1))
+    × Treated (mixed-at q c w work₀ from to) to k w t work₀ work
 
 abbrev μ-loop : tie.MeasureT-loop
 μ-loop q k w l c work₀ from to t₀ row₀ off₀ work t row off = l + 1 - t
@@ -71,7 +72,8 @@ loop-again c =
       search needs,
       omega (arith, row-end (o .t) (a .w)),
       omega (arith, row-end (o .t) (a .k - 1)),
-      reduce-more (a .q) (a .c) (a .k) (a .w) (a .l) (a .from) (a .to) (o .t) (start .pre .1) (omega arith) (o .inv .3) (c .before .before .add-within .ensures) (o .inv .1) (o .inv .2),
+      reduce-more (a .q) (a .c) (a .k) (a .w) (a .l) (a .from) (a .to) (o .t) (start .pre .1) (omega arith) (o .inv .3)
+          (c .before .before .add-within .ensures) (o .inv .1) (o .inv .2),
     )
 
 same-length : tie.Need-same-length Inv-loop μ-loop

@@ -2,19 +2,19 @@
 use mathlib.Core.Path.{_≡_, ap}
 use Prim.Native.Nat.{ℕ, _+_, _-_, _*_, _<_, _≤_}
 use lib.ListN.{length}
-use Rattle.buffers.proofs.Rows.{row-end, row-fits}
+use Rattle.buffers.proofs.Rows.{row-end}
 use Rattle.buffers.proofs.Change.{changed-front}
 use Rattle.finder.specs.Slot.{slot, place}
 use Rattle.finder.proofs.Slot.{slot-small}
-use Rattle.finder.proofs.Sweep.{place-in}
-use Rattle.finder.proofs.Seed.{Seeded, cleared, seeded-none, seeded-more, seeded-started}
+use Rattle.finder.proofs.Seed.{Seeded, cleared, seeded-none, seed-inside, seeded-more, seeded-started}
 use native.Mathlib.Omega.{arith}
 use borrow.Author.Needs.{needs}
 use Rattle.finder.proofs.slots.start.Statement.{statement}
 use Rattle.finder.proofs.slots.start.Tie as tie
 
 abbrev Inv-loop : tie.InvT-loop
-Inv-loop q k w l work₀ s e j₀ at₀ work j at = (j ≤ l + 1) × (at ≡ j * slot w l + place w j 0) × (s ≡ slot w l) × ((l + 1) * slot w l ≤ length work₀) × Seeded w l j work₀ work
+Inv-loop q k w l work₀ s e j₀ at₀ work j at = (j ≤ l + 1) × (at ≡ j * slot w l + place w j 0) × (s ≡ slot w l) × ((l + 1) * slot w l ≤ length work₀)
+    × Seeded w l j work₀ work
 
 abbrev μ-loop : tie.MeasureT-loop
 μ-loop q k w l work₀ s e j₀ at₀ work j at = l + 1 - j
@@ -51,38 +51,30 @@ loop-holds c =
 
 mul-work : tie.Need-mul-work Inv-loop μ-loop
 mul-work c =
-    let at-here = c .before .before .before .before .before .before .before .before in
-    let start = at-here in
-    let a = start .args in
+    let start = c .before .before .before .before .before .before .before .before in
     let o = c .before .loop in
-    let b : o .at < length (o .work) = omega (arith, start .pre, o .inv .4 .len, place-in (a .w) (a .l) {t = o .j} {i = 0} (omega arith) (start .pre .0 .some), row-fits {t = o .j} {n = a .l + 1} (slot (a .w) (a .l)) (omega arith)) in
+    let b : o .at < length (o .work) = omega (arith, o .inv .1, seed-inside _ _ _ (start .pre .0 .some) (omega arith) (o .inv .3) (o .inv .4)) in
     search needs
 
 slice-write-work : tie.Need-slice-write-work Inv-loop μ-loop
 slice-write-work c =
-    let at-here = c .before .before .before .before .before .before .before .before in
-    let start = at-here in
-    let a = start .args in
+    let start = c .before .before .before .before .before .before .before .before in
     let o = c .before .loop in
-    let b : o .at < length (o .work) = omega (arith, start .pre, o .inv .4 .len, place-in (a .w) (a .l) {t = o .j} {i = 0} (omega arith) (start .pre .0 .some), row-fits {t = o .j} {n = a .l + 1} (slot (a .w) (a .l)) (omega arith)) in
+    let b : o .at < length (o .work) = omega (arith, o .inv .1, seed-inside _ _ _ (start .pre .0 .some) (omega arith) (o .inv .3) (o .inv .4)) in
     b
 
 add-at : tie.Need-add-at Inv-loop μ-loop
 add-at c =
-    let at-here = c .before .before .before .before .before .before .before .before in
-    let start = at-here in
-    let a = start .args in
+    let start = c .before .before .before .before .before .before .before .before in
     let o = c .before .loop in
-    let b : o .at < length (o .work) = omega (arith, start .pre, o .inv .4 .len, place-in (a .w) (a .l) {t = o .j} {i = 0} (omega arith) (start .pre .0 .some), row-fits {t = o .j} {n = a .l + 1} (slot (a .w) (a .l)) (omega arith)) in
+    let b : o .at < length (o .work) = omega (arith, o .inv .1, seed-inside _ _ _ (start .pre .0 .some) (omega arith) (o .inv .3) (o .inv .4)) in
     omega (arith, slot-small (start .pre .0))
 
 add-at-2 : tie.Need-add-at-2 Inv-loop μ-loop
 add-at-2 c =
-    let at-here = c .before .before .before .before .before .before .before .before in
-    let start = at-here in
-    let a = start .args in
+    let start = c .before .before .before .before .before .before .before .before in
     let o = c .before .loop in
-    let b : o .at < length (o .work) = omega (arith, start .pre, o .inv .4 .len, place-in (a .w) (a .l) {t = o .j} {i = 0} (omega arith) (start .pre .0 .some), row-fits {t = o .j} {n = a .l + 1} (slot (a .w) (a .l)) (omega arith)) in
+    let b : o .at < length (o .work) = omega (arith, o .inv .1, seed-inside _ _ _ (start .pre .0 .some) (omega arith) (o .inv .3) (o .inv .4)) in
     omega (arith, slot-small (start .pre .0))
 
 add-j : tie.Need-add-j Inv-loop μ-loop
@@ -93,11 +85,10 @@ loop-less c = search needs
 
 loop-again : tie.Need-loop-again Inv-loop μ-loop
 loop-again c =
-    let at-here = c .before .before .before .before .before .before .before .before in
-    let start = at-here in
+    let start = c .before .before .before .before .before .before .before .before in
     let a = start .args in
     let o = c .before .loop in
-    let b : o .at < length (o .work) = omega (arith, start .pre, o .inv .4 .len, place-in (a .w) (a .l) {t = o .j} {i = 0} (omega arith) (start .pre .0 .some), row-fits {t = o .j} {n = a .l + 1} (slot (a .w) (a .l)) (omega arith)) in (
+    let b : o .at < length (o .work) = omega (arith, o .inv .1, seed-inside _ _ _ (start .pre .0 .some) (omega arith) (o .inv .3) (o .inv .4)) in (
       search needs,
       omega (arith, row-end (o .j) (slot (a .w) (a .l)), row-end (o .j) (a .w)),
       o .inv .2,

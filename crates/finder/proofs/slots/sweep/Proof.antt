@@ -13,7 +13,8 @@ use Rattle.finder.proofs.slots.sweep.Statement.{statement}
 use Rattle.finder.proofs.slots.sweep.Tie as tie
 
 abbrev Inv-loop : tie.InvT-loop
-Inv-loop q k w l p over values work₀ s from j₀ at₀ work j at = (j ≤ l + 1) × (at ≡ j * slot w l) × (s ≡ slot w l) × (from ≡ p * slot w l) × Swept q k w l p over values j work₀ work
+Inv-loop q k w l p over values work₀ s from j₀ at₀ work j at = (j ≤ l + 1) × (at ≡ j * slot w l) × (s ≡ slot w l) × (from ≡ p * slot w l)
+    × Swept q k w l p over values j work₀ work
 
 abbrev μ-loop : tie.MeasureT-loop
 μ-loop q k w l p over values work₀ s from j₀ at₀ work j at = l + 1 - j
@@ -27,7 +28,13 @@ mul-from c =
     omega (arith, ap (λ (x : ℕ). a .p * x) (c .room .ensures), row-fits {t = a .p} {n = a .l + 1} (slot (a .w) (a .l)) (omega arith))
 
 loop-holds : tie.Need-loop-holds Inv-loop μ-loop
-loop-holds c = (search needs, search needs, c .room .ensures, ap (λ (x : ℕ). c .before .before .before .args .p * x) (c .room .ensures), swept-none _ _ _ _ _ _ _ _)
+loop-holds c = (
+  search needs,
+  search needs,
+  c .room .ensures,
+  ap (λ (x : ℕ). c .before .before .before .args .p * x) (c .room .ensures),
+  swept-none _ _ _ _ _ _ _ _,
+)
 
 mul-v : tie.Need-mul-v Inv-loop μ-loop
 mul-v c = search needs
@@ -59,7 +66,13 @@ add-at c =
     let at-loop = c .before .before .before in
     let start = at-loop .before .before .before .before in
     let a = start .args in
-    omega (arith, at-loop .loop .inv .1, at-loop .loop .inv .2, start .pre .4, row-fits {t = at-loop .loop .j} {n = a .l + 1} (slot (a .w) (a .l)) (omega arith))
+    omega (
+      arith,
+      at-loop .loop .inv .1,
+      at-loop .loop .inv .2,
+      start .pre .4,
+      row-fits {t = at-loop .loop .j} {n = a .l + 1} (slot (a .w) (a .l)) (omega arith),
+    )
 
 add-j : tie.Need-add-j Inv-loop μ-loop
 add-j c = search needs

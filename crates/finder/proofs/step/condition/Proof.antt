@@ -19,8 +19,7 @@ slice-aggregate-evaluate c = search needs
 
 evaluate-requires : tie.Need-evaluate-requires
 evaluate-requires c κs =
-    let at-here = c .before .before .before .before .before .before .before in
-    let start = at-here in
+    let start = c .before .before .before .before .before .before .before in
     (start .pre .0, start .pre .1, start .pre .2, start .pre .3, start .pre .4, start .pre .5, omega (arith, start .pre .0 .few))
 
 slice-aggregate-pivot : tie.Need-slice-aggregate-pivot
@@ -43,8 +42,11 @@ inv-requires c κs =
     let at-evaluate = c .before .before .before .before .before in
     let start = at-evaluate .before .before .before .before .before .before .before .before in
     let a = start .args in
-    let p = c .before .pivot .result in
-    (start .pre .0 .field, rw (changed-front (at-evaluate .evaluate .ensures) p (omega arith)) (valued-below (start .pre .0) (a .x .now) (a .y .now) (a .leads .now) (a .work .now) p))
+    let p = c .before .pivot .result in (
+      start .pre .0 .field,
+      rw (changed-front (at-evaluate .evaluate .ensures) p (omega arith))
+          (valued-below (start .pre .0) (a .x .now) (a .y .now) (a .leads .now) (a .work .now) p),
+    )
 
 mul-values : tie.Need-mul-values
 mul-values c = search needs
@@ -59,21 +61,33 @@ sweep-requires : tie.Need-sweep-requires
 sweep-requires c κs =
     let at-if1 = c .before .before .before in
     let at-evaluate = at-if1 .before .before .before .before .before in
-    let start = at-evaluate .before .before .before .before .before .before .before .before in
-    (start .pre .0, at-if1 .if1 .taken, simp length-set (omega (arith, start .pre .0 .few, at-evaluate .evaluate .ensures .len)), getD-set-same (at-evaluate .evaluate .last .1 .1 .1 .1 .1 .1 .1 .1 .0) _ 0 0 (omega (arith, start .pre .0 .few, at-evaluate .evaluate .ensures .len)), start .pre .5)
+    let start = at-evaluate .before .before .before .before .before .before .before .before in (
+      start .pre .0,
+      at-if1 .if1 .taken,
+      simp length-set (omega (arith, start .pre .0 .few, at-evaluate .evaluate .ensures .len)),
+      getD-set-same
+          (at-evaluate .evaluate .last .1 .1 .1 .1 .1 .1 .1 .1 .0) _ 0 0 (omega (arith, start .pre .0 .few, at-evaluate .evaluate .ensures .len)),
+      start .pre .5,
+    )
 
 room-requires : tie.Need-room-requires
 room-requires c κs = search needs
 
 mul-raise : tie.Need-mul-raise
 mul-raise c =
-    let at-here = c .before .before .before .before .before .before .before .before in
-    let at-if1 = at-here in
+    let at-if1 = c .before .before .before .before .before .before .before .before in
     let at-pivot = at-if1 .before in
     let start = at-pivot .before .before .before .before .before .before .before .before .before .before .before .before in
     let a = start .args in
     let p = at-pivot .pivot .result in
-    omega (arith, start .pre .5, at-if1 .if1 .taken, start .good, ap (λ (x : ℕ). p * x) (c .before .room .ensures), row-fits {t = p} {n = a .l + 1} (slot (a .w) (a .l)) (omega (arith, at-if1 .if1 .taken)))
+    omega (
+      arith,
+      start .pre .5,
+      at-if1 .if1 .taken,
+      start .good,
+      ap (λ (x : ℕ). p * x) (c .before .room .ensures),
+      row-fits {t = p} {n = a .l + 1} (slot (a .w) (a .l)) (omega (arith, at-if1 .if1 .taken)),
+    )
 
 raise-requires : tie.Need-raise-requires
 raise-requires c κs =
@@ -82,35 +96,39 @@ raise-requires c κs =
     let at-pivot = at-if1 .before in
     let start = at-pivot .before .before .before .before .before .before .before .before .before .before .before .before in
     let a = start .args in
-    let p = at-pivot .pivot .result in
-    (start .pre .0, omega (arith, start .pre .5, at-sweep .sweep .ensures .len, ap (λ (x : ℕ). p * x) (c .before .room .ensures), row-fits {t = p} {n = a .l + 1} (slot (a .w) (a .l)) (omega (arith, at-if1 .if1 .taken))))
+    let p = at-pivot .pivot .result in (
+      start .pre .0,
+      omega (
+        arith,
+        start .pre .5,
+        at-sweep .sweep .ensures .len,
+        ap (λ (x : ℕ). p * x) (c .before .room .ensures),
+        row-fits {t = p} {n = a .l + 1} (slot (a .w) (a .l)) (omega (arith, at-if1 .if1 .taken)),
+      ),
+    )
 
 mul-leads : tie.Need-mul-leads
 mul-leads c =
-    let at-here = c .before .before .before .before .before .before .before .before .before .before .before in
-    let at-if1 = at-here in
+    let at-if1 = c .before .before .before .before .before .before .before .before .before .before .before in
     let start = at-if1 .before .before .before .before .before .before .before .before .before .before .before .before .before in
     omega (arith, at-if1 .if1 .taken, start .pre .0 .few)
 
 slice-read-leads : tie.Need-slice-read-leads
 slice-read-leads c =
-    let at-here = c .before .before .before .before .before .before .before .before .before .before .before .before in
-    let at-if1 = at-here in
+    let at-if1 = c .before .before .before .before .before .before .before .before .before .before .before .before in
     let start = at-if1 .before .before .before .before .before .before .before .before .before .before .before .before .before in
     omega (arith, at-if1 .if1 .taken, start .pre .3)
 
 add-leads : tie.Need-add-leads
 add-leads c =
-    let at-here = c .before .before .before .before .before .before .before .before .before .before .before .before in
-    let at-if1 = at-here in
+    let at-if1 = c .before .before .before .before .before .before .before .before .before .before .before .before in
     let at-pivot = at-if1 .before in
     let start = at-pivot .before .before .before .before .before .before .before .before .before .before .before .before in
     omega (arith, start .pre .4 (at-pivot .pivot .result) (at-if1 .if1 .taken), start .pre .0 .narrow)
 
 slice-write-leads : tie.Need-slice-write-leads
 slice-write-leads c =
-    let at-here = c .before .before .before .before .before .before .before .before .before .before .before .before in
-    let at-if1 = at-here in
+    let at-if1 = c .before .before .before .before .before .before .before .before .before .before .before .before in
     let start = at-if1 .before .before .before .before .before .before .before .before .before .before .before .before .before in
     omega (arith, at-if1 .if1 .taken, start .pre .3)
 
@@ -135,7 +153,8 @@ returns c =
     let v = at-evaluate .evaluate .ensures in
     ⊎-elim (λ x. absurd (omega (arith, x .0, at-if1 .if1 .taken)))
     (λ P. met-step (start .pre .0) (a .alpha) (a .x .now) (a .y .now) (a .leads .now) (a .work .now) _ (start .pre .4) (λ j u. changed-front v j u)
-    P (omega (arith, at-if1 .if1 .taken, start .pre .3)) (omega (arith, start .pre .0 .few, v .len, at-if1 .if1 .taken)) (at-inv .inv .ensures) (at-sweep .sweep .ensures)
+    P (omega (arith, at-if1 .if1 .taken, start .pre .3)) (omega (arith, start .pre .0 .few, v .len, at-if1 .if1 .taken)) (at-inv .inv .ensures)
+    (at-sweep .sweep .ensures)
     (rw (ap (λ (x : ℕ). p * x) (at-room .room .ensures)) at (at-raise .raise .ensures)))
     (at-pivot .pivot .ensures)
 
@@ -152,7 +171,8 @@ returns-2 c =
     let a = start .args in
     let v = at-evaluate .evaluate .ensures in
     ⊎-elim
-    (λ x. met-quiet (start .pre .0) (a .alpha) (a .x .now) (a .y .now) (a .leads .now) (a .work .now) (at-evaluate .evaluate .last .1 .1 .1 .1 .1 .1 .1 .1 .0) (start .pre .4) (λ j u. changed-front v j u) (x .1))
+    (λ x. met-quiet (start .pre .0) (a .alpha) (a .x .now) (a .y .now) (a .leads .now) (a .work .now)
+    (at-evaluate .evaluate .last .1 .1 .1 .1 .1 .1 .1 .1 .0) (start .pre .4) (λ j u. changed-front v j u) (x .1))
     (λ P. absurd (omega (arith, P .alive .column, c .if1 .left)))
     (c .before .pivot .ensures)
 

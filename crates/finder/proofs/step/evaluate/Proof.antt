@@ -15,7 +15,8 @@ use Rattle.finder.proofs.step.evaluate.Statement.{statement}
 use Rattle.finder.proofs.step.evaluate.Tie as tie
 
 abbrev Inv-loop : tie.InvT-loop
-Inv-loop q k w l x y leads work values₀ s j₀ at₀ off₀ values j at off = (j ≤ l + 1) × (at ≡ j * slot w l) × (off ≡ j * (k - 1)) × (s ≡ slot w l) × Changed (valued q k w l x y leads work) 0 j values₀ values
+Inv-loop q k w l x y leads work values₀ s j₀ at₀ off₀ values j at off = (j ≤ l + 1) × (at ≡ j * slot w l) × (off ≡ j * (k - 1)) × (s ≡ slot w l)
+    × Changed (valued q k w l x y leads work) 0 j values₀ values
 
 abbrev μ-loop : tie.MeasureT-loop
 μ-loop q k w l x y leads work values₀ s j₀ at₀ off₀ values j at off = l + 1 - j
@@ -28,8 +29,7 @@ loop-holds c = (search needs, search needs, search needs, c .room .ensures, chan
 
 add-e : tie.Need-add-e Inv-loop μ-loop
 add-e c =
-    let at-here = c .before .before .before .before .before .before .before .before in
-    let start = at-here in
+    let start = c .before .before .before .before .before .before .before .before in
     omega (arith, start .pre, row-fits {t = c .before .loop .j} {n = start .args .l + 1} (slot (start .args .w) (start .args .l)) (omega arith))
 
 mul-weight : tie.Need-mul-weight Inv-loop μ-loop
@@ -40,8 +40,7 @@ shared-slice-read-weight c = search needs
 
 add-weight : tie.Need-add-weight Inv-loop μ-loop
 add-weight c =
-    let at-here = c .before .before .before .before .before .before .before .before .before in
-    let start = at-here in
+    let start = c .before .before .before .before .before .before .before .before .before in
     omega (arith, start .pre .4 (c .before .before .loop .j) (omega arith))
 
 mul-value : tie.Need-mul-value Inv-loop μ-loop
@@ -69,8 +68,12 @@ value-requires c κs =
     let start = at-room .before .before .before .before .before .before in
     let a = start .args in
     let o = at-loop .loop in
-    let f = row-fits {t = o .j} {n = a .l + 1} (slot (a .w) (a .l)) (omega arith) in
-    (start .pre .0, start .pre .1, start .pre .2, len-mid (o .at) (o .at + at-room .room .result - o .at) (a .work .now) (omega (arith, start .pre)) ∙ omega arith)
+    let f = row-fits {t = o .j} {n = a .l + 1} (slot (a .w) (a .l)) (omega arith) in (
+      start .pre .0,
+      start .pre .1,
+      start .pre .2,
+      len-mid (o .at) (o .at + at-room .room .result - o .at) (a .work .now) (omega (arith, start .pre)) ∙ omega arith,
+    )
 
 mul-values : tie.Need-mul-values Inv-loop μ-loop
 mul-values c = search needs
@@ -104,7 +107,8 @@ loop-again c =
       omega (arith, row-end (o .j) (a .k - 1)),
       o .inv .3,
       changed-more (o .j) _ (o .inv .4) (omega arith) (omega (arith, start .pre)) (⊎-elim
-          (λ x. x .3 ∙ x .2 .ensures ∙ valued-part (a .q) (a .k) (a .w) (a .l) (a .x .now) (a .y .now) (a .leads .now) (a .work .now) (o .j) (o .inv .1) (o .inv .3) (omega arith))
+          (λ x. x .3 ∙ x .2 .ensures ∙ valued-part (a .q) (a .k) (a .w) (a .l) (a .x .now) (a .y .now) (a .leads .now) (a .work .now) (o .j)
+          (o .inv .1) (o .inv .3) (omega arith))
           (λ x. x .1 ∙ valued-dead (a .q) (a .k) (a .w) (a .l) (a .x .now) (a .y .now) (a .leads .now) (a .work .now) (o .j) (omega arith))
           (c .if1 .came)),
     )

@@ -29,14 +29,16 @@ returns-3 c =
     let at-if2 = c .before .before in
     let at-all-below = at-if2 .before in
     let at-if1 = at-all-below .before .before in
-    points-7 _ _ (at-if1 .if1 .left) (sym (at-all-below .all-below .ensures) ∙ not-false _ (at-if2 .if2 .left)) (sym (c .before .all-distinct .ensures) ∙ not-true _ (c .if3 .taken))
+    points-7 _ _ (at-if1 .if1 .left) (sym (at-all-below .all-below .ensures) ∙ not-false _ (at-if2 .if2 .left))
+    (sym (c .before .all-distinct .ensures) ∙ not-true _ (c .if3 .taken))
 
 returns-4 : tie.Need-returns-4
 returns-4 c =
     let at-if2 = c .before .before in
     let at-all-below = at-if2 .before in
     let at-if1 = at-all-below .before .before in
-    points-0 _ _ (at-if1 .if1 .left) (sym (at-all-below .all-below .ensures) ∙ not-false _ (at-if2 .if2 .left)) (sym (c .before .all-distinct .ensures) ∙ not-false _ (c .if3 .left))
+    points-0 _ _ (at-if1 .if1 .left) (sym (at-all-below .all-below .ensures) ∙ not-false _ (at-if2 .if2 .left))
+    (sym (c .before .all-distinct .ensures) ∙ not-false _ (c .if3 .left))
 
 pub points-refusal-spec : {M : Type 1} → statement M
 points-refusal-spec =

@@ -26,7 +26,9 @@ returns c =
     let at-if1 = at-with-setting .before in
     let at-setting-refusal = at-if1 .before in
     let at-read-setting = at-setting-refusal .before in
-    did-as (at-told .told .ensures) (set-taken _ _ (at-read-setting .read-setting .ensures) (at-setting-refusal .setting-refusal .ensures) (at-if1 .if1 .taken) (at-with-setting .with-setting .ensures))
+    did-as (at-told .told .ensures)
+    (set-taken _ _ (at-read-setting .read-setting .ensures) (at-setting-refusal .setting-refusal .ensures) (at-if1 .if1 .taken)
+    (at-with-setting .with-setting .ensures))
 
 start-requires : tie.Need-start-requires
 start-requires c κs = search needs
@@ -44,7 +46,8 @@ returns-2 c =
     let at-if1 = at-start .before in
     let at-setting-refusal = at-if1 .before in
     let at-read-setting = at-setting-refusal .before in
-    did-as (at-told2 .told2 .ensures) (set-refused _ _ (at-read-setting .read-setting .ensures) (at-setting-refusal .setting-refusal .ensures) (at-if1 .if1 .left) (at-start .start .ensures))
+    did-as (at-told2 .told2 .ensures)
+    (set-refused _ _ (at-read-setting .read-setting .ensures) (at-setting-refusal .setting-refusal .ensures) (at-if1 .if1 .left) (at-start .start .ensures))
 
 pub take-setting-spec : {M : Type 1} → statement M
 take-setting-spec =

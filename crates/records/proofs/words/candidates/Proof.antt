@@ -14,7 +14,8 @@ use Rattle.records.proofs.words.candidates.Statement.{statement}
 use Rattle.records.proofs.words.candidates.Tie as tie
 
 abbrev Inv-loop : tie.InvT-loop
-Inv-loop list k found out₀ at j₀ a₀ to₀ out j a to = (j ≤ found) × (a ≡ j * k) × (to ≤ at + j * (k * 6 + 2)) × (length out ≡ length out₀) × Wrote (plus-lines (rows k j list)) at out₀ out to
+Inv-loop list k found out₀ at j₀ a₀ to₀ out j a to = (j ≤ found) × (a ≡ j * k) × (to ≤ at + j * (k * 6 + 2)) × (length out ≡ length out₀)
+    × Wrote (plus-lines (rows k j list)) at out₀ out to
 
 abbrev μ-loop : tie.MeasureT-loop
 μ-loop list k found out₀ at j₀ a₀ to₀ out j a to = found - j
@@ -24,13 +25,13 @@ loop-holds c = (omega arith, omega (arith, zero-mul (c .before .before .args .k)
 
 add-e : tie.Need-add-e Inv-loop μ-loop
 add-e c =
-    let at-start = c .before .before .before .before in
-    let f = row-fits {t = c .before .loop .j} {n = at-start .args .found} (at-start .args .k) (c .loop-test .taken) in search needs
+    let start = c .before .before .before .before in
+    let f = row-fits {t = c .before .loop .j} {n = start .args .found} (start .args .k) (c .loop-test .taken) in search needs
 
 mul-plus-line : tie.Need-mul-plus-line Inv-loop μ-loop
 mul-plus-line c =
-    let at-start = c .before .before .before .before in
-    let f = row-fits {t = c .before .loop .j} {n = at-start .args .found} (at-start .args .k) (c .loop-test .taken) in search needs
+    let start = c .before .before .before .before in
+    let f = row-fits {t = c .before .loop .j} {n = start .args .found} (start .args .k) (c .loop-test .taken) in search needs
 
 sub-plus-line : tie.Need-sub-plus-line Inv-loop μ-loop
 sub-plus-line c = search needs
@@ -40,17 +41,17 @@ part-plus-line-start c = search needs
 
 part-plus-line-end : tie.Need-part-plus-line-end Inv-loop μ-loop
 part-plus-line-end c =
-    let at-start = c .before .before .before .before in
-    let f = row-fits {t = c .before .loop .j} {n = at-start .args .found} (at-start .args .k) (c .loop-test .taken) in search needs
+    let start = c .before .before .before .before in
+    let f = row-fits {t = c .before .loop .j} {n = start .args .found} (start .args .k) (c .loop-test .taken) in search needs
 
 plus-line-requires : tie.Need-plus-line-requires Inv-loop μ-loop
 plus-line-requires c κs =
     let at-loop-test = c .before .before in
     let at-loop = at-loop-test .before in
-    let at-start = at-loop .before .before .before in
-    let f = row-fits {t = at-loop .loop .j} {n = at-start .args .found} (at-start .args .k) (at-loop-test .loop-test .taken) in
-    let g = row-fits {t = at-loop .loop .j} {n = at-start .args .found} (at-start .args .k * 6 + 2) (at-loop-test .loop-test .taken) in
-    omega (arith, part-long (at-loop .loop .a) (at-start .args .k) (at-start .args .list .now) (omega arith))
+    let start = at-loop .before .before .before in
+    let f = row-fits {t = at-loop .loop .j} {n = start .args .found} (start .args .k) (at-loop-test .loop-test .taken) in
+    let g = row-fits {t = at-loop .loop .j} {n = start .args .found} (start .args .k * 6 + 2) (at-loop-test .loop-test .taken) in
+    omega (arith, part-long (at-loop .loop .a) (start .args .k) (start .args .list .now) (omega arith))
 
 add-j : tie.Need-add-j Inv-loop μ-loop
 add-j c = search needs
@@ -63,9 +64,9 @@ loop-again c =
     let at-plus-line = c .before .before in
     let at-loop-test = at-plus-line .before .before .before in
     let at-loop = at-loop-test .before in
-    let at-start = at-loop .before .before .before in
+    let start = at-loop .before .before .before in
     let l = at-loop .loop in
-    let x = at-start .args in
+    let x = start .args in
     let f = row-fits {t = l .j} {n = x .found} (x .k) (at-loop-test .loop-test .taken) in
     let w = at-plus-line .plus-line .ensures in (
       omega arith,

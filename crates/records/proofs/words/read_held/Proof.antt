@@ -27,14 +27,14 @@ cast-read-4 c = search needs
 
 slice-aggregate-read : tie.Need-slice-aggregate-read
 slice-aggregate-read c =
-    let x = c .before .before .before .before .before .before .before .before in
-    let K = kept (setting-of (x .args .s)) (take (x .args .s .n) (x .args .points .now)) (x .pre .0) in
+    let start = c .before .before .before .before .before .before .before .before in
+    let K = kept (setting-of (start .args .s)) (take (start .args .s .n) (start .args .points .now)) (start .pre .0) in
     sym (length-take-le _ _ (omega (arith, K .setting .passed .ranged .code .n-most)))
 
 slice-aggregate-read-2 : tie.Need-slice-aggregate-read-2
 slice-aggregate-read-2 c =
-    let x = c .before .before .before .before .before .before .before .before .before in
-    sym (length-take-le _ _ (omega (arith, x .pre .1)))
+    let start = c .before .before .before .before .before .before .before .before .before in
+    sym (length-take-le _ _ (omega (arith, start .pre .1)))
 
 slice-aggregate-read-3 : tie.Need-slice-aggregate-read-3
 slice-aggregate-read-3 c = search needs
@@ -47,18 +47,22 @@ read-requires c κs = search needs
 
 cast-t28 : tie.Need-cast-t28
 cast-t28 c =
-    let x = c .before .before .before .before .before .before .before .before .before .before .before .before .before .before .before .before in
-    let K = kept (setting-of (x .args .s)) (take (x .args .s .n) (x .args .points .now)) (x .pre .0) in
+    let start = c .before .before .before .before .before .before .before .before .before .before .before .before .before .before .before .before in
+    let long = c .before .before .before .before .before .before .read-arg3 .given in
+    let K = kept (setting-of (start .args .s)) (take (start .args .s .n) (start .args .points .now)) (start .pre .0) in
     let r = c .before .before .before .read in
-    let f = found-few _ _ _ K _ _ _ _ (r .ensures) (omega (arith, c .before .before .before .before .before .before .read-arg3 .given)) (length-replicate {A = ℕ} 6400 0) (length-replicate {A = ℕ} 24000 0) in
-    search (needs, c .before .before .before .before .before .before .read-arg3 .given)
+    let f = found-few _ _ _ K _ _ _ _ (r .ensures) (omega (arith, long)) (length-replicate {A = ℕ} 6400 0)
+    (length-replicate {A = ℕ} 24000 0) in
+    search (needs, long)
 
 returns : tie.Need-returns
 returns c =
-    let x = c .before .before .before .before .before .before .before .before .before .before .before .before .before .before .before .before in
-    let K = kept (setting-of (x .args .s)) (take (x .args .s .n) (x .args .points .now)) (x .pre .0) in
+    let start = c .before .before .before .before .before .before .before .before .before .before .before .before .before .before .before .before in
+    let long = c .before .before .before .before .before .before .read-arg3 .given in
+    let K = kept (setting-of (start .args .s)) (take (start .args .s .n) (start .args .points .now)) (start .pre .0) in
     let r = c .before .before .before .read in
-    heard _ _ _ K _ _ _ _ (r .ensures) (omega (arith, c .before .before .before .before .before .before .read-arg3 .given)) (length-replicate {A = ℕ} 6400 0) (length-replicate {A = ℕ} 24000 0) (omega (arith, c .before .before .before .before .before .before .read-arg3 .given))
+    heard _ _ _ K _ _ _ _ (r .ensures) (omega (arith, long)) (length-replicate {A = ℕ} 6400 0)
+    (length-replicate {A = ℕ} 24000 0) (omega (arith, long))
 
 pub read-held-spec : {M : Type 1} → statement M
 read-held-spec =

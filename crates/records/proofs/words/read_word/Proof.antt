@@ -41,7 +41,9 @@ numbered-line-requires : tie.Need-numbered-line-requires
 numbered-line-requires c κs = search needs
 
 slice-aggregate-candidates : tie.Need-slice-aggregate-candidates
-slice-aggregate-candidates c = sym (c .before .before .before .before .before .before .before .read-held .ensures .list-long)
+slice-aggregate-candidates c =
+    let at-read-held = c .before .before .before .before .before .before .before in
+    sym (at-read-held .read-held .ensures .list-long)
 
 cast-candidates : tie.Need-cast-candidates
 cast-candidates c = search needs
@@ -55,11 +57,22 @@ candidates-requires c κs =
     let at-if1 = at-numbered-line .before .before .before in
     let at-read-held = at-if1 .before in
     let at-read-body = at-read-held .before .before .before .before in
-    let at-start = at-read-body .before .before .before .before .before in
+    let start = at-read-body .before .before .before .before .before in
     let h = heard-as (at-read-held .read-held .ensures) (body-front refl (at-read-body .read-body .ensures)) in
     let l = h .accepted (at-if1 .if1 .left) in
-    let n = at-numbered-line .numbered-line .ensures in
-    (search (needs, l .room), omega (arith, h .list-long, l .room, l .few, lines-room (at-read-held .read-held .result .found) (at-start .args .setting .k), n .0, wrote-len (n .1), at-start .pre))
+    let n = at-numbered-line .numbered-line .ensures in (
+      search (needs, l .room),
+      omega (
+        arith,
+        h .list-long,
+        l .room,
+        l .few,
+        lines-room (at-read-held .read-held .result .found) (start .args .setting .k),
+        n .0,
+        wrote-len (n .1),
+        start .pre,
+      ),
+    )
 
 same-length-2 : tie.Need-same-length-2
 same-length-2 c = search needs
@@ -72,13 +85,13 @@ returns-2 c =
     let at-read-held = at-if1 .before in
     let at-read-body = at-read-held .before .before .before .before in
     let at-with-points = at-read-body .before .before in
-    let at-start = at-with-points .before .before .before in
+    let start = at-with-points .before .before .before in
     let h = heard-as (at-read-held .read-held .ensures) (body-front refl (at-read-body .read-body .ensures)) in
     let l = h .accepted (at-if1 .if1 .left) in
     let n = at-numbered-line .numbered-line .ensures in
     let p = at-candidates .candidates .ensures in
     word-heard _ h (at-if1 .if1 .left) (n .1) (p .1) (at-with-points .with-points .ensures)
-    (omega (arith, h .list-long, l .room, l .few, lines-room (at-read-held .read-held .result .found) (at-start .args .setting .k), n .0, p .0, at-start .pre))
+    (omega (arith, h .list-long, l .room, l .few, lines-room (at-read-held .read-held .result .found) (start .args .setting .k), n .0, p .0, start .pre))
 
 pub read-word-spec : {M : Type 1} → statement M
 read-word-spec =

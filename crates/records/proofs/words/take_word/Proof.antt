@@ -25,7 +25,10 @@ enum-told-3 : tie.Need-enum-told-3
 enum-told-3 c = search needs
 
 read-word-requires : tie.Need-read-word-requires
-read-word-requires c κs = let e = c .before .enum-told3 .given .1 in let x = c .before .before .before .before .before .before .before in (subst (λ h. T (possible h)) (held-ready 0 (x .args .held) [] e) (x .pre .0), x .pre .1, x .pre .2, search needs)
+read-word-requires c κs =
+    let start = c .before .before .before .before .before .before .before in
+    let e = c .before .enum-told3 .given .1 in
+    (subst (λ h. T (possible h)) (held-ready 0 (start .args .held) [] e) (start .pre .0), start .pre .1, start .pre .2, search needs)
 
 same-length : tie.Need-same-length
 same-length c = search needs

@@ -23,19 +23,30 @@ loop-holds : tie.Need-loop-holds Inv-loop μ-loop
 loop-holds c = let x = c .before .args in (search needs, search needs, refl, carrying-none (x .q) (x .g) (x .w) (x .u) (x .work .now))
 
 add-shift-add : tie.Need-add-shift-add Inv-loop μ-loop
-add-shift-add c = let l = c .before .before .loop in
-    let f : l .t < c .before .before .before .before .args .l = omega arith in
-    omega (arith, l .inv .3 .len, row-fits (c .before .before .before .before .args .w) f)
+add-shift-add c =
+    let start = c .before .before .before .before in
+    let l = c .before .before .loop in
+    let f : l .t < start .args .l = omega arith in
+    omega (arith, l .inv .3 .len, row-fits (start .args .w) f)
 
 shift-add-requires : tie.Need-shift-add-requires Inv-loop μ-loop
-shift-add-requires c κs = let l = c .before .before .loop in
-    let f : l .t < c .before .before .before .before .args .l = omega arith in
-    (c .before .before .before .before .pre .0, inr (inr (omega arith)), omega (arith, l .inv .3 .len, row-fits (c .before .before .before .before .args .w) f), omega (arith, l .inv .3 .len, row-fits (c .before .before .before .before .args .w) f))
+shift-add-requires c κs =
+    let start = c .before .before .before .before in
+    let l = c .before .before .loop in
+    let f : l .t < start .args .l = omega arith in (
+      start .pre .0,
+      inr (inr (omega arith)),
+      omega (arith, l .inv .3 .len, row-fits (start .args .w) f),
+      omega (arith, l .inv .3 .len, row-fits (start .args .w) f),
+    )
 
 add-row : tie.Need-add-row Inv-loop μ-loop
-add-row c = let l = c .before .before .before .before .before .loop in
-    let f : l .t < c .before .before .before .before .before .before .before .args .l = omega arith in
-    omega (arith, l .inv .3 .len, row-fits (c .before .before .before .before .before .before .before .args .w) f)
+add-row c =
+    let at-loop = c .before .before .before .before .before in
+    let start = at-loop .before .before in
+    let l = at-loop .loop in
+    let f : l .t < start .args .l = omega arith in
+    omega (arith, l .inv .3 .len, row-fits (start .args .w) f)
 
 add-t : tie.Need-add-t Inv-loop μ-loop
 add-t c = search needs
@@ -44,21 +55,34 @@ loop-less : tie.Need-loop-less Inv-loop μ-loop
 loop-less c = search needs
 
 loop-again : tie.Need-loop-again Inv-loop μ-loop
-loop-again c = let l = c .before .before .before .before .before .loop in
-    (search needs, search needs, omega (arith, row-end (l .t) (c .before .before .before .before .before .before .before .args .w)), carrying-more (l .t) _ _ (omega arith) (l .inv .2) refl (l .inv .3) (c .before .before .shift-add .ensures))
+loop-again c =
+    let at-loop = c .before .before .before .before .before in
+    let start = at-loop .before .before in
+    let l = at-loop .loop in (
+      search needs,
+      search needs,
+      omega (arith, row-end (l .t) (start .args .w)),
+      carrying-more (l .t) _ _ (omega arith) (l .inv .2) refl (l .inv .3) (c .before .before .shift-add .ensures),
+    )
 
 shift-requires : tie.Need-shift-requires Inv-loop μ-loop
-shift-requires c κs = let l = c .before .before .loop in
-    let f : l .t ≡ c .before .before .before .before .args .l = omega arith in
-    omega (arith, l .inv .3 .len, ap (λ (n : ℕ). n * c .before .before .before .before .args .w) f)
+shift-requires c κs =
+    let start = c .before .before .before .before in
+    let l = c .before .before .loop in
+    let f : l .t ≡ start .args .l = omega arith in
+    omega (arith, l .inv .3 .len, ap (λ (n : ℕ). n * start .args .w) f)
 
 same-length : tie.Need-same-length Inv-loop μ-loop
 same-length c = search needs
 
 returns : tie.Need-returns Inv-loop μ-loop
-returns c = let l = c .before .before .before .before .before .loop in
-    let f : l .t ≡ c .before .before .before .before .before .before .before .args .l = omega arith in
-    carried-last (c .before .before .before .before .before .before .before .args .l) (l .row) (c .before .before .before .before .before .before .before .pre .1) (l .inv .2 ∙ ap (λ (n : ℕ). n * c .before .before .before .before .before .before .before .args .w) f) (carrying-to (l .inv .3) f) (c .before .before .shift .ensures)
+returns c =
+    let at-loop = c .before .before .before .before .before in
+    let start = at-loop .before .before in
+    let l = at-loop .loop in
+    let f : l .t ≡ start .args .l = omega arith in
+    carried-last (start .args .l) (l .row) (start .pre .1) (l .inv .2 ∙ ap (λ (n : ℕ). n * start .args .w) f) (carrying-to (l .inv .3) f)
+    (c .before .before .shift .ensures)
 
 pub carry-spec : {M : Type 1} → statement M
 carry-spec =

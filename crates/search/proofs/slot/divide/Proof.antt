@@ -47,8 +47,10 @@ loop-less c = search needs
 
 loop-again : tie.Need-loop-again Inv-loop μ-loop
 loop-again c =
-    let l = c .before .before .before .before .before .loop in
-    let x = c .before .before .before .before .before .before .before .args in
+    let at-loop = c .before .before .before .before .before in
+    let start = at-loop .before .before in
+    let l = at-loop .loop in
+    let x = start .args in
     let f : l .t < x .l + 1 = omega arith in
     (search needs, moved-more (l .t) (omega (arith, row-fits (x .w) f)) (omega arith) (l .inv .1) (c .before .before .strip-run .ensures))
 

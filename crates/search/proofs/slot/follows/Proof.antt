@@ -65,14 +65,18 @@ loop-less c = search needs
 loop-again : tie.Need-loop-again Inv-loop μ-loop
 loop-again c =
     let l = c .before .before .before .loop in
-    let x = c .before .before .before .before .before .args in
-    (search needs, c .mixed .ensures ∙ heads-more (x .q) (x .w) (x .l) (x .g) (x .b) (x .work .now) (l .t) (l .sum) (omega arith) (omega arith) (omega arith) (l .inv .1))
+    let x = c .before .before .before .before .before .args in (
+      search needs,
+      c .mixed .ensures ∙ heads-more (x .q) (x .w) (x .l) (x .g) (x .b) (x .work .now) (l .t) (l .sum) (omega arith) (omega arith)
+          (omega arith) (l .inv .1),
+    )
 
 returns : tie.Need-returns Inv-loop μ-loop
 returns c =
+    let start = c .before .before .before in
     let l = c .before .loop in
-    let x = c .before .before .before .args in
-    heads-test (x .q) (x .w) (x .l) (x .g) (c .before .before .before .pre .0) _ (l .t) (l .sum) (omega arith) (l .inv .1)
+    let x = start .args in
+    heads-test (x .q) (x .w) (x .l) (x .g) (start .pre .0) _ (l .t) (l .sum) (omega arith) (l .inv .1)
 
 pub follows-spec : {M : Type 1} → statement M
 follows-spec =

@@ -15,23 +15,32 @@ abbrev μ-loop : tie.MeasureT-loop
 μ-loop q g w l work₀ u₀ work u = u
 
 loop-holds : tie.Need-loop-holds Inv-loop μ-loop
-loop-holds c = let x = c .before .args in let p = c .before .pre in (search needs, stepping-none (x .q) (p .0) (x .g) (p .1) (x .w) (x .l) (x .work .now) (p .3))
+loop-holds c = let x = c .before .args in let p = c .before .pre in
+    (search needs, stepping-none (x .q) (p .0) (x .g) (p .1) (x .w) (x .l) (x .work .now) (p .3))
 
 sub-u : tie.Need-sub-u Inv-loop μ-loop
 sub-u c = search needs
 
 turn-requires : tie.Need-turn-requires Inv-loop μ-loop
-turn-requires c κs = let x = c .before .before .before .before .args in (c .before .before .before .before .pre .0, omega arith, omega (arith, c .before .before .loop .inv .1 .len, row-end (x .l) (x .w)))
+turn-requires c κs =
+    let start = c .before .before .before .before in
+    let x = start .args in (start .pre .0, omega arith, omega (arith, c .before .before .loop .inv .1 .len, row-end (x .l) (x .w)))
 
 loop-less : tie.Need-loop-less Inv-loop μ-loop
 loop-less c = search needs
 
 loop-again : tie.Need-loop-again Inv-loop μ-loop
-loop-again c = let l = c .before .before .before .before .before .loop in
-    let x = c .before .before .before .before .before .before .before .args in
-    let p = c .before .before .before .before .before .before .before .pre in
-    let f : l .u ≡ suc (l .u - 1) = omega arith in
-    (search needs, stepping-more (x .q) (p .0) (x .g) (p .1) (x .w) (x .l) (x .work .now) (p .3) (l .u - 1) (omega arith) (stepping-to (l .inv .1) f) (c .before .before .turn .ensures))
+loop-again c =
+    let at-loop = c .before .before .before .before .before in
+    let start = at-loop .before .before in
+    let l = at-loop .loop in
+    let x = start .args in
+    let p = start .pre in
+    let f : l .u ≡ suc (l .u - 1) = omega arith in (
+      search needs,
+      stepping-more (x .q) (p .0) (x .g) (p .1) (x .w) (x .l) (x .work .now) (p .3) (l .u - 1) (omega arith) (stepping-to (l .inv .1) f)
+          (c .before .before .turn .ensures),
+    )
 
 same-length : tie.Need-same-length Inv-loop μ-loop
 same-length c = search needs

@@ -14,7 +14,12 @@ add-add-within : tie.Need-add-add-within
 add-add-within c = omega (arith, row-fits (c .before .before .args .w) (c .before .before .pre .1))
 
 add-within-requires : tie.Need-add-within-requires
-add-within-requires c κs = (c .before .before .pre .0, inr (omega arith), omega (arith, row-fits (c .before .before .args .w) (c .before .before .pre .1)), omega (arith, row-fits (c .before .before .args .w) (c .before .before .pre .1)))
+add-within-requires c κs = (
+  c .before .before .pre .0,
+  inr (omega arith),
+  omega (arith, row-fits (c .before .before .args .w) (c .before .before .pre .1)),
+  omega (arith, row-fits (c .before .before .args .w) (c .before .before .pre .1)),
+)
 
 add-carry : tie.Need-add-carry
 add-carry c = search needs
@@ -26,7 +31,10 @@ same-length : tie.Need-same-length
 same-length c = search needs
 
 returns : tie.Need-returns
-returns c = turned (c .before .before .before .before .before .before .before .before .before .args .l) (c .before .before .before .before .before .before .before .before .before .pre .1) (c .before .before .before .before .before .before .add-within .ensures) (c .before .before .carry .ensures)
+returns c =
+    let at-add-within = c .before .before .before .before .before .before in
+    let start = at-add-within .before .before .before in
+    turned (start .args .l) (start .pre .1) (at-add-within .add-within .ensures) (c .before .before .carry .ensures)
 
 pub turn-spec : {M : Type 1} → statement M
 turn-spec =
