@@ -66,7 +66,7 @@ extern "C" {
 
 /* ---- Refusals ----
  *
- * Every call but whitebeamish_is_modulus returns one of these numbers, as a uint16_t. They are tested in this order: the
+ * Every call but whitebeamish_is_modulus returns one of these, as a uint16_t. They are tested in this order: the
  * lowest that applies is returned, and none is returned unless its cause is there. */
 enum whitebeamish_refusal {
     WHITEBEAMISH_OK = 0,             /* accepted */
@@ -152,7 +152,7 @@ uint16_t whitebeamish_find(size_t p, size_t n, size_t k, size_t s, size_t tau,
 /* Lists, from a curve that somebody proposes, every message of k symbols that agrees with the word in at least
  * n - tau places: each once, smaller constant term first, then smaller coefficient of x, and so on.
  * Answer: 2 numbers, the list length (0 to l; 0 is not a refusal) and the beginnings that the search tried. A beginning
- * is 0 to k first symbols of a message which the curve leaves possible. Their number measures the search's work: at most
+ * is 0 to k first symbols of a message which the curve leaves possible. How many there are measures the work: at most
  * 1 + l * k, and it depends on the curve.
  * Afterwards: message number j of the list, from 0, starts at output[j * k]; places behind the list are untouched.
  * The first R numbers of work are 0, the rest is untouched.
