@@ -1,4 +1,5 @@
--- The leading terms of the basis are the least: every curve that meets the conditions has its greatest term at or above one of them, and the best curve is the only one of its greatest term.
+-- The leading terms of the basis are the least: every curve that meets the conditions has its greatest term at or above one of them.
+-- The best curve is the only one of its greatest term.
 use mathlib.Core.Path.{_≡_, refl, sym, _∙_, ap}
 use mathlib.Core.Logic.{_⊎_, inl, inr}
 use mathlib.Core.List.{List, [], _∷_, _++_, List·Memᴰ·head, Memᴰ·append-left, Memᴰ·append-right}

@@ -31,7 +31,11 @@ stepping-to h q = rw q at h
 
 pub stepped : {q g w l : ℕ} {d e : List ℕ} → Stepping q g w l 0 d e → Substituted q g w l d e
 stepped {q} {g} {w} {l} {d} {e} h =
-    record { len = h .len; cells = λ t i k j. h .cells t i (omega arith) k j ∙ ap (λ (n : ℕ). cell (ops q) (step (ops q) g (rows w (l + 1) d)) n i) (sub-zero t); high = h .high }
+    record {
+      len = h .len;
+      cells = λ t i k j. h .cells t i (omega arith) k j ∙ ap (λ (n : ℕ). cell (ops q) (step (ops q) g (rows w (l + 1) d)) n i) (sub-zero t);
+      high = h .high;
+    }
 
 module _ (q : ℕ) (m : T (modulus q)) (g : ℕ) (gq : g < q) (w l : ℕ) (d : List ℕ) (b : Below q 0 ((l + 1) * w) d) where
   abbrev Q : List (List ℕ)

@@ -1,4 +1,5 @@
--- A turn of the walk: what its calls are handed, and what they leave. d, b and z are the slots, the beginning and the roots as the walk begins; d₁, b₁, z₁ and all as the turn does.
+-- A turn of the walk: what its calls are handed, and what they leave.
+-- d, b and z are the slots, the beginning and the roots as the walk begins; d₁, b₁, z₁ and the tally `all` as the turn does.
 use mathlib.Core.Bool.{true, false}
 use mathlib.Core.Path.{_≡_, refl, sym, ap, _∙_}
 use mathlib.Core.List.{List, [], _∷_, _++_, map}

@@ -47,8 +47,8 @@ returns-2 c =
 
 pair-requires : tie.Need-pair-requires
 pair-requires c κs =
-    let at-start = c .before .before .before .before .before in
-    let w = whole-long (at-start .args .bytes .now) (sym (c .before .is-broken .ensures) ∙ c .if2 .left) in omega arith
+    let start = c .before .before .before .before .before in
+    let w = whole-long (start .args .bytes .now) (sym (c .before .is-broken .ensures) ∙ c .if2 .left) in omega arith
 
 take-setting-requires : tie.Need-take-setting-requires
 unfolding kind
@@ -57,9 +57,9 @@ take-setting-requires c κs =
     let at-if2 = at-pair .before in
     let at-is-broken = at-if2 .before in
     let start = at-is-broken .before .before .before .before in
-    let w = whole-long (start .args .bytes .now) (sym (at-is-broken .is-broken .ensures) ∙ at-if2 .if2 .left) in
-    let f = whole-five (start .args .bytes .now) (sym (at-is-broken .is-broken .ensures) ∙ at-if2 .if2 .left)
-    (sym (at-pair .pair .ensures) ∙ c .before .if3 .taken) in
+    let whole = sym (at-is-broken .is-broken .ensures) ∙ at-if2 .if2 .left in
+    let w = whole-long (start .args .bytes .now) whole in
+    let f = whole-five (start .args .bytes .now) whole (sym (at-pair .pair .ensures) ∙ c .before .if3 .taken) in
     (omega arith, search needs)
 
 same-length-2 : tie.Need-same-length-2

@@ -35,10 +35,10 @@ returns c =
     let at-if1 = at-with-points .before in
     let at-points-refusal = at-if1 .before in
     let at-read-body = at-points-refusal .before .before in
-    did-as (at-told .told .ensures)
-    (points-taken _ _ _ (at-points-refusal .points-refusal .ensures ∙ ap (points-refusal _) (body-front refl (at-read-body .read-body .ensures)))
-    (at-if1 .if1 .taken) _ (at-read-body .read-body .ensures .count) (body-front refl (at-read-body .read-body .ensures))
-    (at-with-points .with-points .ensures))
+    let read = at-read-body .read-body .ensures in
+    let front = body-front refl read in
+    let is = at-points-refusal .points-refusal .ensures ∙ ap (points-refusal _) front in
+    did-as (at-told .told .ensures) (points-taken _ _ _ is (at-if1 .if1 .taken) _ (read .count) front (at-with-points .with-points .ensures))
 
 with-setting-requires : tie.Need-with-setting-requires
 with-setting-requires c κs = search needs
@@ -56,10 +56,9 @@ returns-2 c =
     let at-if1 = at-with-setting .before in
     let at-points-refusal = at-if1 .before in
     let at-read-body = at-points-refusal .before .before in
-    did-as (at-told2 .told2 .ensures)
-    (points-refused _ _ _
-    (at-points-refusal .points-refusal .ensures ∙ ap (points-refusal _) (body-front refl (at-read-body .read-body .ensures))) (at-if1 .if1 .left)
-    (at-with-setting .with-setting .ensures))
+    let front = body-front refl (at-read-body .read-body .ensures) in
+    let is = at-points-refusal .points-refusal .ensures ∙ ap (points-refusal _) front in
+    did-as (at-told2 .told2 .ensures) (points-refused _ _ _ is (at-if1 .if1 .left) (at-with-setting .with-setting .ensures))
 
 pub fit-points-spec : {M : Type 1} → statement M
 fit-points-spec =
