@@ -7,8 +7,8 @@ ghost use Rattle.reader.specs.Calls.{encoded, checked, finding, listing,
 
 mod refusals;
 mod sifting;
+pub mod slices;
 mod terms;
-pub mod tests;
 mod word;
 mod writing;
 
@@ -110,7 +110,7 @@ pub fn find(
     }
     let size = t.size;
     let room = t.room;
-    let short = tests::either_short(curve.len(), size, work.len(), room);
+    let short = slices::either_short(curve.len(), size, work.len(), room);
     let number = refusals::of_word(p, n, points, word, short);
     if number != 0 {
         return empty(number);
@@ -149,7 +149,7 @@ pub fn list(
         return empty(t.refusal);
     }
     let room = t.room;
-    let short = tests::either_short(output.len(), t.list, work.len(), room);
+    let short = slices::either_short(output.len(), t.list, work.len(), room);
     let number = refusals::of_listing(p, n, points, word, t.size, curve, short);
     if number != 0 {
         return empty(number);
@@ -192,7 +192,7 @@ pub fn read(
     }
     let size = t.size;
     let room = t.room;
-    let short = tests::any_short(output.len(), t.list, curve.len(), size, work.len(), room);
+    let short = slices::any_short(output.len(), t.list, curve.len(), size, work.len(), room);
     let number = refusals::of_word(p, n, points, word, short);
     if number != 0 {
         return empty(number);

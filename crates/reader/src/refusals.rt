@@ -5,19 +5,19 @@ ghost use mathlib.Core.List.{[], _∷_, _++_};
 ghost use lib.Dec.{eqb};
 ghost use Rattle.rules.specs.Refusal.{_if_, lowest, encode-refusal};
 ghost use Rattle.reader.specs.Causes.{pair-causes, proposed-causes};
-use crate::tests;
+use crate::slices;
 
 // 5 to 7 for n points and m symbols.
 pub fn of_pair(p: usize, n: usize, points: &[u16], m: usize, symbols: &[u16]) -> u16
     ensures { λ r. ⌜ r ≡ lowest (pair-causes p n (now (points .entry)) m (now (symbols .entry))) ⌝ }
 {
-    if !tests::both_long(n, points, m, symbols) {
+    if !slices::both_long(n, points, m, symbols) {
         return 5;
     }
-    if !tests::both_below(p, points, symbols) {
+    if !slices::both_below(p, points, symbols) {
         return 6;
     }
-    if !tests::all_distinct(points) {
+    if !slices::all_distinct(points) {
         return 7;
     }
     0
@@ -54,13 +54,13 @@ pub fn of_proposed(
 ) -> u16
     ensures { λ r. ⌜ r ≡ lowest (proposed-causes p n (now (points .entry)) (now (word .entry)) size (now (curve .entry))) ⌝ }
 {
-    if !tests::three_long(n, points, word, size, curve) {
+    if !slices::three_long(n, points, word, size, curve) {
         return 5;
     }
-    if !tests::three_below(p, points, word, curve) {
+    if !slices::three_below(p, points, word, curve) {
         return 6;
     }
-    if !tests::all_distinct(points) {
+    if !slices::all_distinct(points) {
         return 7;
     }
     0

@@ -2,8 +2,8 @@
 use Rattle.rules.specs.Refusal.{long}
 use Rattle.reader.proofs.Answers.{holds, fails}
 use borrow.Author.Needs.{needs}
-use Rattle.reader.proofs.tests.three_long.Statement.{statement}
-use Rattle.reader.proofs.tests.three_long.Tie as tie
+use Rattle.reader.proofs.slices.three_long.Statement.{statement}
+use Rattle.reader.proofs.slices.three_long.Tie as tie
 
 both-long-requires : tie.Need-both-long-requires
 both-long-requires c κs = search needs

@@ -1,8 +1,8 @@
 -- both_below: where one of these is not below p, nothing else is asked.
 use Rattle.reader.proofs.Answers.{holds, fails}
 use borrow.Author.Needs.{needs}
-use Rattle.reader.proofs.tests.both_below.Statement.{statement}
-use Rattle.reader.proofs.tests.both_below.Tie as tie
+use Rattle.reader.proofs.slices.both_below.Statement.{statement}
+use Rattle.reader.proofs.slices.both_below.Tie as tie
 
 all-below-requires : tie.Need-all-below-requires
 all-below-requires c κs = search needs

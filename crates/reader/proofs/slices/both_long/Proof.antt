@@ -1,8 +1,8 @@
 -- both_long: where these are not n, nothing else is asked.
 use Rattle.rules.specs.Refusal.{long}
 use Rattle.reader.proofs.Answers.{is-long, not-long}
-use Rattle.reader.proofs.tests.both_long.Statement.{statement}
-use Rattle.reader.proofs.tests.both_long.Tie as tie
+use Rattle.reader.proofs.slices.both_long.Statement.{statement}
+use Rattle.reader.proofs.slices.both_long.Tie as tie
 
 returns : tie.Need-returns
 returns c = simp (not-long (c .before .args .these .now) (c .if1 .taken))

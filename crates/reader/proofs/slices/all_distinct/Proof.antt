@@ -1,4 +1,4 @@
--- `reader::tests::all_distinct` meets its contract: what is passed is none of those behind it, so that the test is that of the rest.
+-- `reader::slices::all_distinct` meets its contract: what is passed is none of those behind it, so that the test is that of the rest.
 use Prim.Native.Nat.{_+_, _-_}
 use mathlib.Core.Path.{_≡_, refl, _∙_}
 use lib.Dec.{eqb}
@@ -8,8 +8,8 @@ use Rattle.rules.specs.Lists.{distinct}
 use Rattle.reader.proofs.Scan.{scan-more, scan-fails, scan-ends, distinct-scan, new-of-part}
 use native.Mathlib.Omega.{arith}
 use borrow.Author.Needs.{needs}
-use Rattle.reader.proofs.tests.all_distinct.Statement.{statement}
-use Rattle.reader.proofs.tests.all_distinct.Tie as tie
+use Rattle.reader.proofs.slices.all_distinct.Statement.{statement}
+use Rattle.reader.proofs.slices.all_distinct.Tie as tie
 
 abbrev Inv-loop : tie.InvT-loop
 Inv-loop points i₀ i = distinct eqb points ≡ distinct eqb (drop i points)

@@ -1,8 +1,8 @@
 -- three_below: where one of these and those is not below p, nothing else is asked.
 use Rattle.reader.proofs.Answers.{holds, fails}
 use borrow.Author.Needs.{needs}
-use Rattle.reader.proofs.tests.three_below.Statement.{statement}
-use Rattle.reader.proofs.tests.three_below.Tie as tie
+use Rattle.reader.proofs.slices.three_below.Statement.{statement}
+use Rattle.reader.proofs.slices.three_below.Tie as tie
 
 both-below-requires : tie.Need-both-below-requires
 both-below-requires c κs = search needs

@@ -1,4 +1,4 @@
--- `reader::tests::all_below` meets its contract: what is passed is below p, so that the test is that of the rest.
+-- `reader::slices::all_below` meets its contract: what is passed is below p, so that the test is that of the rest.
 use Prim.Native.Nat.{_-_}
 use mathlib.Core.Path.{_≡_, refl}
 use native.Mathlib.Omega.{arith}
@@ -8,8 +8,8 @@ use borrow.Author.Tests.{lt-ltb, le-ltb}
 use Rattle.rules.specs.Refusal.{under}
 use borrow.Author.Needs.{needs}
 use Rattle.reader.proofs.Scan.{scan-more, scan-fails, scan-ends, all-scan}
-use Rattle.reader.proofs.tests.all_below.Statement.{statement}
-use Rattle.reader.proofs.tests.all_below.Tie as tie
+use Rattle.reader.proofs.slices.all_below.Statement.{statement}
+use Rattle.reader.proofs.slices.all_below.Tie as tie
 
 abbrev Inv-loop : tie.InvT-loop
 Inv-loop p symbols i₀ i = under p symbols ≡ under p (drop i symbols)

@@ -1,8 +1,8 @@
 -- any_short: where one of the first two is too short, nothing else is asked.
 use mathlib.Core.Path.{sym, _∙_}
 use borrow.Author.Needs.{needs}
-use Rattle.reader.proofs.tests.any_short.Statement.{statement}
-use Rattle.reader.proofs.tests.any_short.Tie as tie
+use Rattle.reader.proofs.slices.any_short.Statement.{statement}
+use Rattle.reader.proofs.slices.any_short.Tie as tie
 
 either-short-requires : tie.Need-either-short-requires
 either-short-requires c κs = search needs

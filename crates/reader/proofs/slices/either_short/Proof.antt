@@ -1,7 +1,7 @@
 -- either_short: where the first is too short, nothing else is asked.
 use borrow.Author.Tests.{lt-ltb, le-ltb}
-use Rattle.reader.proofs.tests.either_short.Statement.{statement}
-use Rattle.reader.proofs.tests.either_short.Tie as tie
+use Rattle.reader.proofs.slices.either_short.Statement.{statement}
+use Rattle.reader.proofs.slices.either_short.Tie as tie
 
 returns : tie.Need-returns
 returns c = simp (lt-ltb _ _ (c .if1 .taken))
