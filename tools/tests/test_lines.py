@@ -173,6 +173,15 @@ class WrongPrograms(unittest.TestCase):
         shown = lines.show(ask("1 1 0\n2 2 0\n3 3 0 1\n+ 1 0\n", sample("two-readings").read_bytes()))
         self.assertIn("agrees in 0 of 7; differs at places 0 1 2 3 4 5 6; too few, 4 are needed", shown)
 
+    def test_text_in_place_of_a_patch_file_is_noticed(self):
+        with Fake("1 0 10\n") as fake:
+            _, output, said = look("lines", "--program", fake.command, data=b"setting p 7 n 7 k 2 s 1 tau 3\n")
+            self.assertIn("refused 10", output.decode())
+            self.assertIn("looks like text", said)
+        with Fake(PRINTED["clean"]) as fake:
+            _, _, said = look("lines", "--program", fake.command, sample("clean"))
+            self.assertEqual(said, "")
+
     def test_exit_codes(self):
         reasons = {"false": "ended with 1", "/nowhere/at-all": "No such file", "echo hello": "no line of an answer"}
         for program, reason in reasons.items():

@@ -17,14 +17,14 @@ use Rattle.algebra.proofs.Bridge.{coefficient-hom, hasse-hom, weighted-hom}
 use Rattle.algebra.proofs.Carry.{value-hom}
 use Rattle.algebra.proofs.Passes.{hasse-value}
 use Rattle.prime.specs.Field.{elt, field}
-use Rattle.prime.proofs.Below.{modulus-two, plus-below}
+use Rattle.prime.proofs.Below.{modulus-two, plus-below, alike-zero}
 use Rattle.prime.proofs.Laws.{laws}
 use Rattle.demands.proofs.Link.{elt-hom}
 use Rattle.buffers.proofs.Part.{at-mid}
 use Rattle.curve.specs.Weights.{Weights}
 use Rattle.curve.specs.Check.{blank, line, zero-with, zero-below, met}
 use Rattle.curve.proofs.Pairing.{pairing-value}
-use Rattle.curve.proofs.Tests.{test-false, below-same, alike-small, zeros-blank}
+use Rattle.curve.proofs.Tests.{test-false, below-same, zeros-blank}
 
 -- with the rows of weights at a point and a symbol, the pairings are the values of the triple's conditions
 module _ (q k w l : ℕ) (c : List ℕ) where
@@ -67,7 +67,7 @@ module _ (q k w l : ℕ) (c : List ℕ) where
           ∙ ap (value F (space k w l) (carry e z)) (fun-ext (λ i. fun-ext (λ t. sym (coefficient-hom (ops q) F e (elt-hom q m h) w c i t))))
           ∙ sym (value-hom (ops q) F e (elt-hom q m h) (space k w l) z (coefficient (ops q) w c)))
           ∙ sym (elt-hom q m h .same _ _)
-          ∙ alike-small q _ (value-below z)
+          ∙ alike-zero q _ (value-below z)
 
       pub met-through : (z : Triple ℕ) → met q k w l c z ≡ through (ops q) w l c z
       unfolding met through condition

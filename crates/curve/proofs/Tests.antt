@@ -3,7 +3,6 @@ use mathlib.Core.Path.{_≡_, refl, sym, _∙_, subst, ap, ap₂}
 use mathlib.Core.Bool.{Bool, true, false, not, _&&_, _||_}
 use mathlib.Core.List.{List, [], _∷_}
 use Prim.Native.Nat.{ℕ, zero, suc, _+_, _-_, _*_, _<_, _≤_}
-use native.Mathlib.Nat.{mod-eq-of-lt, zero-mod}
 use native.Mathlib.Omega.{arith}
 use lib.Dec.{T, not-T, eqb, ltb, eqb→eq, ltb→lt, nltb→le}
 use lib.ListN.{length, getD}
@@ -14,6 +13,7 @@ use Rattle.rules.specs.Code.{zeros}
 use Rattle.rules.specs.Curve.{coefficient, weighted}
 use Rattle.rules.specs.Refusal.{under}
 use Rattle.rules.proofs.Tests.{both, and, below-at, below-of, or-else, same-test}
+use Rattle.prime.proofs.Below.{alike-zero, alike-itself}
 use Rattle.buffers.proofs.Part.{len-mid, at-mid}
 use Rattle.curve.specs.Check.{blank}
 
@@ -68,21 +68,17 @@ blank-false run i n = test-false (blank run) (λ t. n (blank-at run t i))
 
 -- Numbers below q stand for zero only where they are 0.
 
-pub alike-small : (q a : ℕ) → a < q → alike q a 0 ≡ eqb a 0
-unfolding alike
-alike-small q a h = ap₂ eqb (mod-eq-of-lt h) (zero-mod q)
-
 pub zeros-blank : (q : ℕ) (c : List ℕ) → T (under q c) → zeros (ops q) c ≡ blank c
 unfolding zeros blank under all
 zeros-blank q [] u = refl
 zeros-blank q (a ∷ c) u =
     let r = both (ltb a q) _ u in
-    ap₂ _&&_ (alike-small q a (ltb→lt a q (r .0))) (zeros-blank q c (r .1))
+    ap₂ _&&_ (alike-zero q a (ltb→lt a q (r .0))) (zeros-blank q c (r .1))
 
 alike-at : (q : ℕ) (c : List ℕ) (i : ℕ) → T (under q c) → alike q (getD c i 0) 0 ≡ eqb (getD c i 0) 0
 unfolding under all
-alike-at q [] i u = unfold alike in ap₂ eqb (zero-mod q) (zero-mod q)
-alike-at q (a ∷ c) zero u = alike-small q a (ltb→lt a q (both (ltb a q) _ u .0))
+alike-at q [] i u = alike-itself q 0
+alike-at q (a ∷ c) zero u = alike-zero q a (ltb→lt a q (both (ltb a q) _ u .0))
 alike-at q (a ∷ c) (suc i) u = alike-at q c i (both (ltb a q) _ u .1)
 
 -- the first n rows hold nothing outside the space

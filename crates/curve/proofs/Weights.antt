@@ -3,7 +3,6 @@ use mathlib.Core.Path.{_≡_, refl, ap, _∙_}
 use mathlib.Core.Logic.{_⊎_, inl, inr}
 use mathlib.Core.List.{List}
 use Prim.Native.Nat.{ℕ, zero, suc, _+_, _-_, _*_, _%_, _<_, _≤_}
-use native.Mathlib.Nat.{add-comm, zero-add, mod-eq-of-lt}
 use native.Mathlib.Numerals.{add-one}
 use native.Mathlib.Omega.{arith}
 use lib.Dec.{T}
@@ -11,7 +10,7 @@ use lib.ListN.{getD}
 use borrow.Author.Count.{below-more}
 use Rattle.rules.specs.Field.{ops, plus, times, modulus}
 use Rattle.algebra.specs.Conditions.{weight}
-use Rattle.prime.proofs.Below.{times-below}
+use Rattle.prime.proofs.Below.{times-below, plus-swapped, plus-from-zero}
 use Rattle.buffers.specs.Change.{Changed}
 use Rattle.curve.specs.Weights.{Lower, Weights}
 
@@ -28,13 +27,13 @@ module _ (q α : ℕ) where
     pub weight-more : {n : ℕ} {d e : List ℕ} (a low : ℕ) → Weights q α a n d → Changed (weight (ops q) α a) (a * 256) (i + 1) d e → i < n → n ≤ 256 →
         Lower a i e low →
         plus q low (times q α (weight (ops q) α a i)) ≡ weight (ops q) α a (i + 1)
-    unfolding weight plus
-    weight-more {n} {d} {e} zero low w h l u r = rw (r .none refl, add-one, zero-add) (mod-eq-of-lt (times-below q m α _))
+    unfolding weight
+    weight-more {n} {d} {e} zero low w h l u r = rw (r .none refl, add-one) (plus-from-zero q _ (times-below q m α _))
     weight-more {n} {d} {e} (suc a) low w h l u r =
         let at : (suc a - 1) * 256 + i ≡ a * 256 + i = omega arith in
         let is : low ≡ weight (ops q) α a i = r .some (omega arith) ∙ ap (λ (k : ℕ). getD e k 0) at ∙ h .low (a * 256 + i) (omega arith)
         ∙ w .row a (omega arith) i l in
-        rw (is, add-one) (ap (λ x. x % q) (add-comm _ _))
+        rw (is, add-one) (plus-swapped q _ _)
 
   pub weights-more : {a n : ℕ} {d e : List ℕ} → n ≤ 256 → Weights q α a n d → Changed (weight (ops q) α a) (a * 256) n d e → Weights q α (a + 1) n e
   weights-more {a} {n} {d} {e} u w h = record {

@@ -8,11 +8,11 @@ use native.Mathlib.Decide.{Fin·val-path}
 use native.Mathlib.Omega.{arith}
 use lib.Dec.{T, eqb, ltb, ltb→lt}
 use Rattle.rules.specs.Lists.{from, below, all, distinct}
-use Rattle.rules.specs.Field.{Ops, ops, alike, modulus}
+use Rattle.rules.specs.Field.{Ops, ops, modulus}
 use Rattle.rules.proofs.Tests.{both}
 use Rattle.algebra.specs.Hom.{Hom}
 use Rattle.prime.specs.Field.{value, elt, field}
-use Rattle.prime.proofs.Below.{plus-below, times-below, image-below, plus-reduced, times-reduced, alike-reduced}
+use Rattle.prime.proofs.Below.{plus-below, times-below, image-below, plus-reduced, times-reduced, alike-reduced, alike-below}
 use Rattle.prime.proofs.Laws.{elt-value}
 
 module _ (q : ℕ) (m : T (modulus q)) (h : 1 < q) where
@@ -56,7 +56,7 @@ module _ (q : ℕ) (m : T (modulus q)) (h : 1 < q) where
 
   -- points that differ as numbers differ as elements
   pub distinct-elts : (xs : List ℕ) → T (all (λ a. ltb a q) xs) → distinct eqb xs ≡ distinct (F .same) (map e xs)
-  unfolding distinct all alike
+  unfolding distinct all
   distinct-elts [] t = refl
   distinct-elts (x ∷ xs) t =
       let r = both (ltb x q) _ t in
@@ -66,7 +66,4 @@ module _ (q : ℕ) (m : T (modulus q)) (h : 1 < q) where
       apart x [] l t = refl
       apart x (y ∷ xs) l t =
           let r = both (ltb y q) _ t in
-          ap₂ (λ a b. not a && b) (ap₂ eqb (back x l) (back y (ltb→lt y q (r .0)))) (apart x xs l (r .1))
-        where
-          back : (x : ℕ) → x < q → x ≡ x % q % q
-          back x l = sym (ap (λ y. y % q) (mod-eq-of-lt l) ∙ mod-eq-of-lt l)
+          ap₂ (λ a b. not a && b) (sym (alike-reduced q x y ∙ alike-below q x y l (ltb→lt y q (r .0)))) (apart x xs l (r .1))

@@ -25,7 +25,7 @@ use Rattle.prime.specs.Field.{elt, field}
 use Rattle.prime.proofs.Below.{plus-below, minus-reduced}
 use Rattle.prime.proofs.Laws.{laws}
 use Rattle.prime.proofs.Tests.{modulus-says}
-use Rattle.prime.proofs.Inverse.{inverse-is}
+use Rattle.prime.proofs.Inverse.{inverse-times}
 use Rattle.demands.specs.Shape.{Shaped}
 use Rattle.demands.proofs.Link.{elt-hom}
 use Rattle.curve.specs.Value.{pairing}
@@ -69,8 +69,7 @@ module _ {q k w l : ℕ} (s : Shaped q k w l) (h : 1 < q) where
 
   elt-inverse : (v : ℕ) → ¬ (v ≡ 0) → v < q → F .mul (e v) (e (inverse (ops q) v)) ≡ F .one
   elt-inverse v n l =
-      let w = inverse-is q (modulus-says q (s .field)) v (pos-of-ne-zero n) l in
-      sym (H .mul v _) ∙ ap e (unfold times in w .product)
+      sym (H .mul v _) ∙ ap e (inverse-times q (modulus-says q (s .field)) v (pos-of-ne-zero n) l)
 
   module _ (α r a b : ℕ) (x y : List ℕ) (X : Row q α a w x) (Y : Row q r b (l + 1) y) where
     abbrev c : Condition (Fin q)

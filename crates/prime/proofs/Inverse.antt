@@ -60,6 +60,10 @@ module _ (p : ℕ) (h : Prime p) where
       (passed a (w .0 % p) (mul-mod-right p a (w .0) ∙ w .1))
       (λ b m t. record { symbol = omega (arith, mem-from b 0 p m); product = passes a b t })
 
+  pub inverse-times : (a : ℕ) → 0 < a → a < p → times p a (inverse (ops p) a) ≡ 1
+  unfolding times
+  inverse-times a s u = inverse-is a s u .product
+
   pub inverse-only : (a b : ℕ) → 0 < a → a < p → Inverse a b → b ≡ inverse (ops p) a
   inverse-only a b s u v =
       let i = inverse (ops p) a in

@@ -1,21 +1,20 @@
 -- When a message meets a triple, and how a score over slices goes on place by place.
-use mathlib.Core.Path.{_≡_, refl, sym, ap, _∙_}
+use mathlib.Core.Path.{_≡_, refl, ap, _∙_}
 use mathlib.Core.Bool.{true, false, cond}
 use mathlib.Core.List.{List, [], _∷_}
 use Prim.Native.Nat.{ℕ, zero, suc, _+_, _%_, _<_, _≤_}
-use native.Mathlib.Nat.{mod-eq-of-lt}
 use native.Mathlib.Numerals.{add-one}
 use native.Mathlib.Omega.{arith}
 use lib.Dec.{T, ltb, ltb→lt}
 use lib.ListN.{length, getD, drop, drop-of-length-le}
 use lib.Seq.{drop-cons}
-use borrow.Author.Tests.{eq-eqb, ne-eqb}
+use borrow.Author.Tests.{ne-eqb}
 use Rattle.rules.specs.Lists.{all, sum}
 use Rattle.rules.specs.Field.{ops, alike, modulus}
 use Rattle.rules.specs.Code.{Triple, eval, meets, score}
 use Rattle.rules.specs.Refusal.{under}
 use Rattle.rules.proofs.Tests.{both}
-use Rattle.prime.proofs.Below.{modulus-two, plus-below}
+use Rattle.prime.proofs.Below.{modulus-two, plus-below, alike-below, alike-itself}
 use Rattle.curve.specs.Triples.{tripled}
 use Rattle.curve.proofs.Triples.{triple-at}
 
@@ -33,12 +32,12 @@ module _ (q : ℕ) (m : T (modulus q)) where
 
   module _ (f : List ℕ) (z : Triple ℕ) where
     pub meets-it : eval (ops q) f (z .point) ≡ z .symbol → meets (ops q) f z ≡ true
-    unfolding meets alike
-    meets-it e = eq-eqb _ _ (ap (λ (x : ℕ). x % q) e)
+    unfolding meets
+    meets-it e = ap (λ (x : ℕ). alike q x (z .symbol)) e ∙ alike-itself q (z .symbol)
 
     pub misses-it : z .symbol < q → ¬ (eval (ops q) f (z .point) ≡ z .symbol) → meets (ops q) f z ≡ false
-    unfolding meets alike
-    misses-it l h = ne-eqb _ _ (λ e. h (sym (mod-eq-of-lt (eval-below f (z .point))) ∙ e ∙ mod-eq-of-lt l))
+    unfolding meets
+    misses-it l h = alike-below q _ _ (eval-below f (z .point)) l ∙ ne-eqb _ _ h
 
 module _ (q : ℕ) (points word times f : List ℕ) where
   -- the score from place j on

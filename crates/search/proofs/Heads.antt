@@ -2,16 +2,16 @@
 use mathlib.Core.Path.{_≡_, refl, sym, ap, ap₂, _∙_}
 use mathlib.Core.List.{List, [], _∷_}
 use Prim.Native.Nat.{ℕ, zero, suc, _+_, _-_, _*_, _<_, _≤_}
-use native.Mathlib.Nat.{mod-eq-of-lt, zero-mod, zero-add}
+use native.Mathlib.Nat.{zero-add}
 use native.Mathlib.Omega.{arith}
 use lib.Dec.{T, eqb}
 use lib.ListN.{length, getD, take, drop, length-map}
 use lib.Seq.{getD-take, getD-drop}
 use Rattle.rules.specs.Code.{eval}
-use Rattle.rules.specs.Field.{ops, plus, times, alike, modulus}
+use Rattle.rules.specs.Field.{ops, plus, times, modulus}
 use Rattle.rules.specs.Search.{rows, first, firsts, follows}
 use Rattle.algebra.proofs.Rows.{rows-length}
-use Rattle.prime.proofs.Below.{modulus-two, plus-below}
+use Rattle.prime.proofs.Below.{modulus-two, plus-below, alike-zero}
 use Rattle.buffers.proofs.Rows.{row-fits}
 use Rattle.within.proofs.Read.{eval-none, eval-more, eval-all}
 use Rattle.search.specs.Slot.{run}
@@ -68,8 +68,8 @@ module _ (q w : ℕ) where
     -- the number is zero, so the symbol is
     pub heads-test : T (modulus q) → (Q : List (List ℕ)) (t sum : ℕ) → t ≡ 0 → sum ≡ eval (ops q) (drop t (firsts (ops q) Q)) g →
         eqb sum 0 ≡ follows (ops q) Q g
-    unfolding follows alike
+    unfolding follows
     heads-test m Q t sum z e =
         let f = eval-below m (firsts (ops q) Q) in
         ap (λ (n : ℕ). eqb n 0) (e ∙ eval-all q (firsts (ops q) Q) g t z)
-        ∙ sym (ap₂ eqb (mod-eq-of-lt f) (zero-mod q))
+        ∙ sym (alike-zero q _ f)

@@ -2,7 +2,7 @@
 use mathlib.Core.Path.{_≡_, refl, sym, ap, ap₂, subst, _∙_}
 use mathlib.Core.List.{List, [], _∷_, map}
 use Prim.Native.Nat.{ℕ, zero, suc, _+_, _-_, _*_, _<_, _≤_, _/_, _%_, Fin}
-use native.Mathlib.Nat.{mod-eq-of-lt, mul-zero, zero-mod, add-zero, mod-lt, div-add-mod', div-lt-iff-lt-mul}
+use native.Mathlib.Nat.{mod-eq-of-lt, mod-lt, div-add-mod', div-lt-iff-lt-mul}
 use native.Mathlib.Omega.{arith}
 use lib.Dec.{T}
 use lib.ListN.{length, getD, take, drop, List·getD-map, length-take, length-drop, length-map}
@@ -110,10 +110,6 @@ module _ (q : ℕ) (m : T (modulus q)) where
       ∙ ap value (cell-rows F (laws q m h) w n t i (map e s) l k)
       ∙ ap value (List·getD-map e s (t * w + i) 0)
       ∙ mod-eq-of-lt (b (t * w + i) (omega (arith, row-fits w l)))
-
-pub plus-none : (q g a : ℕ) → a < q → plus q a (times q g 0) ≡ a
-unfolding plus times
-plus-none q g a l = rw (mul-zero g) (rw (zero-mod q) (rw (add-zero a) (mod-eq-of-lt l)))
 
 -- the index of a slot as a row and a column
 pub by-cell : (w n : ℕ) (P : ℕ → Type 0) → 0 < w → ((t i : ℕ) → t < n → i < w → P (t * w + i)) → (j : ℕ) → j < n * w → P j

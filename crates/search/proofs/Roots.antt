@@ -4,7 +4,7 @@ use mathlib.Core.Path.{_≡_, refl, sym, ap, ap₂, _∙_}
 use mathlib.Core.Logic.{_↔_, ⊎-elim}
 use mathlib.Core.List.{List, [], _∷_, _++_, map, flatten, append-nil, append-assoc}
 use Prim.Native.Nat.{ℕ, zero, suc, _+_, _-_, _*_, _<_, _≤_}
-use native.Mathlib.Nat.{mod-eq-of-lt, zero-mod, mul-one, mul-le-mul-left}
+use native.Mathlib.Nat.{mul-one, mul-le-mul-left}
 use native.Mathlib.Omega.{arith}
 use native.Mathlib.Numerals.{add-one}
 use lib.Dec.{T, eqb, eqb→eq}
@@ -15,6 +15,7 @@ use Rattle.rules.specs.Field.{ops, alike}
 use Rattle.rules.specs.Lists.{all}
 use Rattle.rules.specs.Search.{rows}
 use Rattle.rules.proofs.Tests.{both, and, same-test}
+use Rattle.prime.proofs.Below.{alike-zero}
 use Rattle.algebra.specs.Search.{found}
 use Rattle.buffers.proofs.Change.{lt-or-ge}
 use Rattle.buffers.proofs.Part.{len-mid}
@@ -78,16 +79,12 @@ zero-eqb : (c : ℕ) → c ≡ 0 → T (eqb c 0)
 zero-eqb c e = rw e tt
 
 module _ (q : ℕ) where
-  alike-zero : (c : ℕ) → c < q → alike q c 0 ≡ eqb c 0
-  unfolding alike
-  alike-zero c l = ap₂ eqb (mod-eq-of-lt l) (zero-mod q)
-
   zeros-tell : (s : List ℕ) → ((j : ℕ) → j < length s → getD s j 0 < q) → T (zeros (ops q) s) ↔ ((j : ℕ) → j < length s → getD s j 0 ≡ 0)
   unfolding zeros all
   zeros-tell [] b = (λ t j l. absurd (omega arith), λ z. tt)
   zeros-tell (c ∷ s) b =
       let k = zeros-tell s (λ j l. b (suc j) (omega arith)) in
-      let f = alike-zero c (b 0 (omega arith)) in (
+      let f = alike-zero q c (b 0 (omega arith)) in (
         λ t. let r = both (alike q c 0) (zeros (ops q) s) t in
             elim [ zero ↦ λ l. eqb→eq c 0 (rw f at (r .0)) | suc j ↦ λ l. k .0 (r .1) j (omega arith) ],
         λ z. and (alike q c 0) (zeros (ops q) s) (rw f (zero-eqb c (z 0 (omega arith)))) (k .1 (λ j l. z (suc j) (omega arith))),

@@ -13,12 +13,12 @@ use Rattle.algebra.specs.Poly.{shift}
 use Rattle.algebra.specs.Search.{cell}
 use Rattle.algebra.proofs.Rows.{rows-length}
 use Rattle.prime.specs.Field.{value, elt}
-use Rattle.prime.proofs.Below.{modulus-two}
+use Rattle.prime.proofs.Below.{modulus-two, plus-none}
 use Rattle.buffers.proofs.Change.{lt-or-ge}
 use Rattle.buffers.proofs.Rows.{row-end}
 use Rattle.within.specs.Runs.{moved}
 use Rattle.search.specs.Slot.{Below, Turned, Substituted}
-use Rattle.search.proofs.Numbers.{rows-values, number-zero, number-suc, number-tall, number-below, number-cell, plus-none}
+use Rattle.search.proofs.Numbers.{rows-values, number-zero, number-suc, number-tall, number-below, number-cell}
 
 pub record Stepping (q g w l u : ℕ) (d e : List ℕ) : Type 0 where
   pub len : length e ≡ length d
