@@ -3,7 +3,8 @@
 import programs
 import settings
 from programs import Failure
-from reels import made, record
+from reels import made
+from rules import join
 from settings import Setting
 from tables import head, rate, ratio, row
 
@@ -105,7 +106,7 @@ def no_points(p, n, plan):
     setting = Setting(p, n, 8, 1, settings.half(n, 8))
     answers = []
     for points, refusal in (range(n), 6), ([j % p for j in range(n)], 7):
-        file = record(1, setting.numbers) + record(2, list(points))
+        file = join(1, setting.numbers) + join(2, list(points))
         printed = programs.compared(plan.commands(), file, f"p {p}, n {n}")
         if not printed.endswith(f"2 2 {refusal}\n".encode()):
             raise Failure(f"p {p}, n {n}: points were to be refused with {refusal}, printed {printed.decode()!r}")

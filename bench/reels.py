@@ -1,14 +1,9 @@
 """Reels: patch files with one setting, its points and many words, the same for the same seed."""
 
 import random
-import struct
 from dataclasses import dataclass
 
-
-def record(kind, numbers):
-    """A record of document 01's patch file."""
-    body = struct.pack(f"<{len(numbers)}H", *numbers)
-    return struct.pack("<HH", 2 + len(body), kind) + body
+from rules import join, patch_of
 
 
 def below(source, bound):
@@ -20,17 +15,6 @@ def chosen(source, count, bound):
     """So many different numbers below the bound."""
     left = list(range(bound))
     return [left.pop(below(source, len(left))) for _ in range(count)]
-
-
-def patch_of(p, points, message):
-    """The values of the message's polynomial at the points."""
-    values = []
-    for x in points:
-        value = 0
-        for symbol in reversed(message):
-            value = (value * x + symbol) % p
-        values.append(value)
-    return values
 
 
 def word(source, setting, points, number):
@@ -63,11 +47,11 @@ def made(setting, count, seed):
     source = random.Random(f"{seed} {setting.numbers}")
     points = chosen(source, setting.n, setting.p)
     words = [word(source, setting, points, number) for number in range(count)]
-    front = record(1, setting.numbers) + record(2, points)
-    return Reel(front, b"".join(record(3, w) for w in words), count)
+    front = join(1, setting.numbers) + join(2, points)
+    return Reel(front, b"".join(join(3, w) for w in words), count)
 
 
 def unread(setting, kind, symbol, count):
     """A reel whose records, all alike, are refused or passed over: nothing is read."""
-    front = record(1, setting.numbers) + record(2, list(range(setting.n)))
-    return Reel(front, record(kind, [symbol] * setting.n) * count, count)
+    front = join(1, setting.numbers) + join(2, list(range(setting.n)))
+    return Reel(front, join(kind, [symbol] * setting.n) * count, count)

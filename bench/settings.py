@@ -1,10 +1,10 @@
-"""Document 01's setting rule once more, for choosing τ, and how many operations a word is expected to cost."""
+"""Settings: which τ are taken, and how many operations a word is expected to cost."""
 
 from dataclasses import dataclass
+from functools import cached_property
 from math import comb
 
-# "The program has 24,000 numbers of work."
-WORK = 24000
+from rules import ROOM, derive
 
 # The second program takes the curve when more messages or choices of places than this would be tried.
 AFFORDABLE = 200_000
@@ -19,28 +19,18 @@ class Setting:
     tau: int
 
     @property
-    def w(self):
-        return self.s * (self.n - self.tau)
-
-    @property
-    def l(self):
-        return (self.w - 1) // (self.k - 1)
-
-    @property
-    def c(self):
-        return self.n * self.s * (self.s + 1) // 2
-
-    @property
-    def u(self):
-        return sum(self.w - t * (self.k - 1) for t in range(self.l + 1))
-
-    @property
-    def r(self):
-        return (self.l + self.k + 4) * (self.l + 1) * self.w
-
-    @property
     def numbers(self):
         return (self.p, self.n, self.k, self.s, self.tau)
+
+    @cached_property
+    def derived(self):
+        return derive(self.numbers)
+
+    w = property(lambda self: self.derived.W)
+    l = property(lambda self: self.derived.l)
+    c = property(lambda self: self.derived.C)
+    u = property(lambda self: self.derived.U)
+    r = property(lambda self: self.derived.R)
 
     def refusal(self):
         """3 or 4 of the setting call; p, n, k, s and τ are in their ranges here."""
@@ -50,7 +40,7 @@ class Setting:
 
     def program_refusal(self):
         """The same, or 8 where the program's work is too small."""
-        return self.refusal() or (8 if self.r > WORK else 0)
+        return self.refusal() or (8 if self.r > ROOM else 0)
 
     def finder_count(self):
         """C conditions, at each of which ℓ+1 curves of U numbers are valued; the sweep and the raise go over as many again."""

@@ -243,7 +243,7 @@ impl Maker {
 
     /// Settings whose R is 24,000, the nearest ones above it, and the most conditions that are held.
     fn work_edge(&mut self) {
-        let (n, k, s, tau) = self.random.pick(&[
+        let setting = self.one_of(&[
             (64, 11, 2, 14),
             (54, 11, 4, 29),
             (64, 40, 2, 0),
@@ -251,9 +251,14 @@ impl Maker {
             (54, 8, 4, 33),
             (25, 2, 1, 0),
         ]);
-        let p = self.random.pick(&[67, 929]);
-        let setting = Setting::accept(p, n, k, s, tau).expect("these are accepted");
         self.block_of(&setting, 1);
+    }
+
+    /// One of these accepted n, k, s and τ, with a modulus that has points enough for all of them.
+    fn one_of(&mut self, settings: &[(u64, u64, u64, u64)]) -> Setting {
+        let (n, k, s, tau) = self.random.pick(settings);
+        let p = self.random.pick(&[67, 929]);
+        Setting::accept(p, n, k, s, tau).expect("these are accepted")
     }
 
     /// n above p: points are then refused with 6 or 7.

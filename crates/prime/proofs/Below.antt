@@ -2,12 +2,14 @@
 -- What the crates above need to know of remainders is said here.
 use mathlib.Core.Path.{_≡_, refl, sym, _∙_, ap, ap₂}
 use mathlib.Core.Bool.{true}
+use mathlib.Core.List.{List, [], _∷_}
 use Prim.Native.Nat.{ℕ, _+_, _-_, _%_, _≤_, _<_}
 use native.Mathlib.Nat.{mod-lt, mod-mod, mod-eq-of-lt, zero-mod, add-mod, mod-add-mod, add-comm, add-zero, zero-add, mul-zero}
 use native.Mathlib.Omega.{arith}
 use lib.Dec.{T, eqb}
 use borrow.Author.Tests.{eq-eqb}
-use Rattle.rules.specs.Field.{plus, minus, times, image, alike, modulus}
+use Rattle.rules.specs.Field.{ops, plus, minus, times, image, alike, modulus}
+use Rattle.rules.specs.Code.{eval}
 use Rattle.prime.proofs.Mod.{mul-mod-left, mul-mod-right}
 use Rattle.prime.proofs.Tests.{modulus-says}
 
@@ -32,6 +34,11 @@ module _ (q : ℕ) (m : T (modulus q)) where
   pub image-below : (n : ℕ) → image q n < q
   unfolding image
   image-below n = reduced-below n
+
+  pub eval-below : (f : List ℕ) (x : ℕ) → eval (ops q) f x < q
+  unfolding eval
+  eval-below [] x = omega (arith, modulus-two)
+  eval-below (c ∷ f) x = plus-below c _
 
 module _ (q a b : ℕ) where
   pub plus-reduced : plus q (a % q) (b % q) ≡ plus q a b

@@ -14,7 +14,7 @@ use Rattle.rules.specs.Field.{ops, alike, modulus}
 use Rattle.rules.specs.Code.{Triple, eval, meets, score}
 use Rattle.rules.specs.Refusal.{under}
 use Rattle.rules.proofs.Tests.{both}
-use Rattle.prime.proofs.Below.{modulus-two, plus-below, alike-below, alike-itself}
+use Rattle.prime.proofs.Below.{eval-below, alike-below, alike-itself}
 use Rattle.curve.specs.Triples.{tripled}
 use Rattle.curve.proofs.Triples.{triple-at}
 
@@ -25,11 +25,6 @@ under-at q (x ∷ xs) t zero l = ltb→lt x q (both (ltb x q) (under q xs) t .0)
 under-at q (x ∷ xs) t (suc j) l = under-at q xs (both (ltb x q) (under q xs) t .1) j (omega arith)
 
 module _ (q : ℕ) (m : T (modulus q)) where
-  eval-below : (f : List ℕ) (x : ℕ) → eval (ops q) f x < q
-  unfolding eval
-  eval-below [] x = omega (arith, modulus-two q m)
-  eval-below (c ∷ f) x = plus-below q m _ _
-
   module _ (f : List ℕ) (z : Triple ℕ) where
     pub meets-it : eval (ops q) f (z .point) ≡ z .symbol → meets (ops q) f z ≡ true
     unfolding meets
@@ -37,7 +32,7 @@ module _ (q : ℕ) (m : T (modulus q)) where
 
     pub misses-it : z .symbol < q → ¬ (eval (ops q) f (z .point) ≡ z .symbol) → meets (ops q) f z ≡ false
     unfolding meets
-    misses-it l h = alike-below q _ _ (eval-below f (z .point)) l ∙ ne-eqb _ _ h
+    misses-it l h = alike-below q _ _ (eval-below q m f (z .point)) l ∙ ne-eqb _ _ h
 
 module _ (q : ℕ) (points word times f : List ℕ) where
   -- the score from place j on

@@ -11,7 +11,7 @@ use Rattle.rules.specs.Code.{eval}
 use Rattle.rules.specs.Field.{ops, plus, times, modulus}
 use Rattle.rules.specs.Search.{rows, first, firsts, follows}
 use Rattle.algebra.proofs.Rows.{rows-length}
-use Rattle.prime.proofs.Below.{modulus-two, plus-below, alike-zero}
+use Rattle.prime.proofs.Below.{eval-below, alike-zero}
 use Rattle.buffers.proofs.Rows.{row-fits}
 use Rattle.within.proofs.Read.{eval-none, eval-more, eval-all}
 use Rattle.search.specs.Slot.{run}
@@ -60,16 +60,11 @@ module _ (q w : ℕ) where
         (sym (heads-at (l + 1) (t - 1) s o f ∙ run-at b ((l + 1) * w) d ((t - 1) * w) (omega (arith, row-fits w f)))) e
         ∙ eval-more q (heads s) g t p (omega (arith, heads-length (l + 1) s))
 
-    eval-below : T (modulus q) → (f : List ℕ) → eval (ops q) f g < q
-    unfolding eval
-    eval-below m [] = omega (arith, modulus-two q m)
-    eval-below m (c ∷ f) = plus-below q m c _
-
     -- the number is zero, so the symbol is
     pub heads-test : T (modulus q) → (Q : List (List ℕ)) (t sum : ℕ) → t ≡ 0 → sum ≡ eval (ops q) (drop t (firsts (ops q) Q)) g →
         eqb sum 0 ≡ follows (ops q) Q g
     unfolding follows
     heads-test m Q t sum z e =
-        let f = eval-below m (firsts (ops q) Q) in
+        let f = eval-below q m (firsts (ops q) Q) g in
         ap (λ (n : ℕ). eqb n 0) (e ∙ eval-all q (firsts (ops q) Q) g t z)
         ∙ sym (alike-zero q _ f)

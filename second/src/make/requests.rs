@@ -131,7 +131,7 @@ impl Maker {
     }
 
     fn largest(&mut self) -> Setting {
-        let (n, k, s, tau) = self.random.pick(&[
+        self.one_of(&[
             (64, 32, 4, 16),
             (64, 2, 1, 39),
             (64, 2, 1, 53),
@@ -140,9 +140,7 @@ impl Maker {
             (64, 64, 1, 0),
             (40, 6, 4, 18),
             (64, 20, 2, 18),
-        ]);
-        let p = self.random.pick(&[67, 929]);
-        Setting::accept(p, n, k, s, tau).expect("these are accepted")
+        ])
     }
 
     /// The least curve times a symbol, and times x + c for a few c, 0 among them, while its degree leaves room.
