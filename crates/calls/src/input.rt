@@ -8,7 +8,10 @@ fn joined(low: u8, high: u8) -> u16 {
 // The next number; where the input has ended, 0.
 fn next() -> u16 {
     let mut bytes = [0u8; 2];
-    io::read_full(0, &mut bytes);
+    let got = streams::fill(&mut bytes);
+    if got.failed {
+        os::fail(b"calls: cannot read standard input");
+    }
     joined(bytes[0], bytes[1])
 }
 

@@ -1,9 +1,16 @@
 // Numbers on standard output, each with a space before it.
 
+// A write that fails is named on standard error.
+fn told(written: bool) {
+    if !written {
+        os::fail(b"calls: cannot write to standard output");
+    }
+}
+
 // A number.
 pub fn put(x: usize) {
-    io::write_all(1, b" ");
-    io::print_decimal(1, x as u64);
+    told(io::write_all(1, b" "));
+    told(io::print_decimal(1, x as u64));
 }
 
 // The same for a number of 16 bits.
@@ -18,5 +25,5 @@ pub fn put_run(run: &[u16]) {
         put_symbol(run[i]);
         i += 1;
     }
-    io::write_all(1, b"\n");
+    told(io::write_all(1, b"\n"));
 }

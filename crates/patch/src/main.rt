@@ -1,47 +1,61 @@
-// The program for patch files: it reads the records from standard input, and prints the lines of each.
-use libc::STDIN_FILENO;
-use libc::STDOUT_FILENO;
-ghost use Prim.Native.Nat.{_+_, _≤_};
+// The program for patch files: it reads the records from standard input, and prints the lines of each. A call that fails stops it, and is named on standard error.
+ghost use Prim.Native.Nat.{_≤_};
 ghost use lib.Dec.{T};
 ghost use lib.ListN.{length};
 ghost use Rattle.records.specs.Holding.{held-of, possible};
 
-// Reads into the places from a to e, and answers how many bytes came: fewer only where the input ends.
-fn fill(all: &mut [u8], a: usize, e: usize) -> usize
-    requires { ⌜ (a ≤ e) × (e ≤ length (now all)) ⌝ }
-    ensures { λ r. ⌜ a + r ≤ e ⌝ }
-{
-    io::read_full(STDIN_FILENO, &mut all[a..e])
-}
-
 // The bytes of the next record, as far as the input has them: none at its end.
-fn read_record(all: &mut [u8]) -> usize
+fn read_record(all: &mut [u8]) -> streams::Got
     requires { ⌜ 132 ≤ length (now all) ⌝ }
-    ensures { λ r. ⌜ r ≤ 132 ⌝ }
+    ensures { λ r. ⌜ r .count ≤ 132 ⌝ }
 {
-    let first = fill(all, 0, 2);
-    let want = parsing::want(&all[..first]);
+    let first = streams::fill(&mut all[0..2]);
+    let begun = first.count;
+    let want = parsing::want(&all[..begun]);
     let end = 2 + want;
-    let rest = fill(all, 2, end);
-    first + rest
+    let rest = streams::fill(&mut all[2..end]);
+    streams::Got {
+        count: begun + rest.count,
+        failed: first.failed || rest.failed,
+    }
 }
 
-// One record: read, taken, its lines written.
+// A record of which the input has these bytes: taken, its lines written.
+fn take(held: records::Held, number: u64, bytes: &[u8]) -> records::Done
+    requires { ⌜ T (possible (held-of held)) × (length (now bytes) ≤ 132) ⌝ }
+    ensures { λ r. ⌜ T (possible (held-of (r .held))) ⌝ }
+{
+    let mut out = [0u8; 16384];
+    let mut done = records::step(held, number, bytes, &mut out);
+    let wrote = done.wrote;
+    if !streams::put(&out[..wrote]) {
+        os::fail(b"patch: cannot write to standard output");
+        done.more = false;
+    }
+    done
+}
+
+// One record. A read that fails is no end of the input, so nothing is said of what came before it of the record.
 fn turn(held: records::Held, number: u64) -> records::Done
     requires { ⌜ T (possible (held-of held)) ⌝ }
     ensures { λ r. ⌜ T (possible (held-of (r .held))) ⌝ }
 {
     let mut bytes = [0u8; 132];
-    let mut out = [0u8; 16384];
-    let n = read_record(&mut bytes);
-    let done = records::step(held, number, &bytes[..n], &mut out);
-    let wrote = done.wrote;
-    io::write_all(STDOUT_FILENO, &out[..wrote]);
-    done
+    let got = read_record(&mut bytes);
+    if got.failed {
+        os::fail(b"patch: cannot read standard input");
+        return records::Done {
+            held,
+            wrote: 0,
+            more: false,
+        };
+    }
+    let n = got.count;
+    take(held, number, &bytes[..n])
 }
 
-// Takes record after record until one stops it: the end of the input, or refusal 10.
-fn main() {
+// Takes record after record until one stops it: the end of the input, refusal 10, or a call that fails.
+fn read_all() {
     let mut held = records::start();
     let mut number: u64 = 0;
     while number < u64::MAX {
@@ -51,5 +65,12 @@ fn main() {
             return;
         }
         held = done.held;
+    }
+}
+
+fn main() {
+    read_all();
+    if !streams::finish() {
+        os::fail(b"patch: cannot finish standard output");
     }
 }

@@ -1,12 +1,12 @@
--- main: the count of records ends the loop at the latest.
+-- read_all: the count of records ends the loop at the latest.
 use mathlib.Core.Path.{sym, subst}
 use Prim.Native.Nat.{_-_, _^_, _<_}
 use lib.Dec.{T}
 use Rattle.records.specs.Holding.{held-of, possible}
 use native.Mathlib.Omega.{arith}
 use borrow.Author.Needs.{needs}
-use Rattle.patch.proofs.main.Statement.{statement}
-use Rattle.patch.proofs.main.Tie as tie
+use Rattle.patch.proofs.read_all.Statement.{statement}
+use Rattle.patch.proofs.read_all.Tie as tie
 
 abbrev Inv-loop : tie.InvT-loop
 Inv-loop held₀ number₀ held number = (number < 2 ^ 64) × T (possible (held-of held))
@@ -39,8 +39,8 @@ loop-again c = search needs
 returns-2 : tie.Need-returns-2 Inv-loop μ-loop
 returns-2 c = search needs
 
-pub main-spec : {M : Type 1} → statement M
-main-spec =
+pub read-all-spec : {M : Type 1} → statement M
+read-all-spec =
     tie.close
     (tie.spec
     Inv-loop
