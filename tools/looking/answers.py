@@ -2,7 +2,8 @@
 import re
 import subprocess
 from dataclasses import dataclass
-from typing import List, Optional, Tuple
+from itertools import islice
+from typing import Optional, Tuple
 
 from looking.code import Setting, patch_of
 from looking.records import Record, split
@@ -59,26 +60,63 @@ def run(command, data):
     return done.stdout.decode("utf-8", "replace")
 
 
-def groups_of(output):
-    """The program's lines, each record's line with the candidates below it."""
-    groups: List[List[str]] = []
-    for line in output.splitlines():
-        if not re.fullmatch(r"(\+|[0-9]{1,9})( [0-9]{1,9})+", line):
-            raise ProgramError(f"the program printed {line!r}, which is no line of an answer")
-        if not line.startswith("+"):
-            groups.append([line])
-        elif groups:
-            groups[-1].append(line)
-        else:
-            raise ProgramError(f"the program printed {line!r} before any record's line")
-    return groups
+RECORD_LINE = re.compile(r"([0-9]{1,20}) ([0-9]{1,5}) ([0-9]{1,2})(?: ([0-9]{1,2}))?")
+CANDIDATE_LINE = re.compile(r"\+((?: [0-9]{1,3})+)")
+
+
+def told(number, record, line):
+    """The refusal number and the list length (0 without a list) of a record's own line, once it fits the record."""
+    found = RECORD_LINE.fullmatch(line)
+    if found:
+        first, kind, refusal, length = found.groups()
+        listed = record.kind == 3 and refusal == "0"
+        named = first == str(number) and kind == str(record.kind)
+        if named and (refusal == "10") == bool(record.flaw) and (length is not None) == listed:
+            return int(refusal), int(length or 0)
+    raise ProgramError(f"the line {line!r} does not fit record {number} of kind {record.kind}")
+
+
+def message_of(line, k):
+    """The symbols of a candidate's line."""
+    found = CANDIDATE_LINE.fullmatch(line)
+    symbols = found.group(1).split() if found else []
+    if len(symbols) != k:
+        raise ProgramError(f"the line {line!r} is not a candidate of k = {k} symbols")
+    return symbols
+
+
+def whole(lines):
+    """Lines without their line ends; the last one must have its own."""
+    for line in lines:
+        if not line.endswith("\n"):
+            raise ProgramError(f"the last line, {line!r}, is cut")
+        yield line[:-1]
+
+
+def lines_of(number, record, k, lines):
+    """The refusal number and all lines of a record, its own and its candidates', taken from the front of an iterator."""
+    own = next(lines, None)
+    if own is None:
+        raise ProgramError(f"there is no line for record {number}")
+    refusal, length = told(number, record, own)
+    listed = list(islice(lines, length))
+    if len(listed) < length:
+        raise ProgramError(f"the list of record {number} has {len(listed)} of {length} candidates")
+    for line in listed:
+        message_of(line, k)
+    return refusal, [own] + listed
+
+
+def must_end(lines):
+    """No line is left when every record has its own."""
+    line = next(lines, None)
+    if line is not None:
+        raise ProgramError(f"the line {line!r} stands behind those of the last record")
 
 
 def candidate(line, setting, points, word):
     """A candidate's line, with its agreement worked out here."""
-    message = tuple(int(field) for field in line.split()[1:])
-    if len(message) != setting.k:
-        raise ProgramError(f"the program printed {line!r}, which is not k = {setting.k} symbols")
+    message = tuple(map(int, message_of(line, setting.k)))
     patch = tuple(patch_of(setting.p, points, message))
     return Candidate(message, patch, tuple(x == y for x, y in zip(patch, word)))
 
@@ -91,22 +129,22 @@ class Held:
         self.points = None
 
     def answer(self, number, record, lines):
-        """A record's answer, and what is held after it."""
-        refusal = checked_refusal(number, record, lines)
+        """A record's answer, from the front of the lines, and what is held after it."""
+        refusal, own = lines_of(number, record, self.setting.k if self.setting else 0, lines)
         if record.kind in (1, 2):
             self.points = None
         if record.kind == 1:
             given = Setting(*record.numbers)
             self.setting = None if refusal else given
-            return Answer(number, record, refusal, lines, given, None)
+            return Answer(number, record, refusal, tuple(own), given, None)
         if record.kind == 2 and refusal == 0:
             self.points = record.numbers
         found = ()
         if record.kind == 3 and refusal == 0:
             if not self.fits(record.numbers):
                 raise ProgramError(f"the program accepted record {number}, a word that does not fit what it holds")
-            found = tuple(candidate(x, self.setting, self.points, record.numbers) for x in lines[1:])
-        return Answer(number, record, refusal, lines, self.setting, self.points, found)
+            found = tuple(candidate(x, self.setting, self.points, record.numbers) for x in own[1:])
+        return Answer(number, record, refusal, tuple(own), self.setting, self.points, found)
 
     def fits(self, word):
         """Whether a word's agreement with a message can be worked out at all."""
@@ -114,23 +152,10 @@ class Held:
         return held and self.setting.p > 0 and len(word) == len(self.points) == self.setting.n
 
 
-def checked_refusal(number, record, lines):
-    """The refusal number of an answer, once its line fits the record."""
-    fields = [int(field) for field in lines[0].split()]
-    listed = record.kind == 3 and fields[2:3] == [0]
-    wanted = [number, record.kind] + fields[2:3] + ([len(lines) - 1] if listed else [])
-    stops = len(fields) > 2 and fields[2] == 10
-    if fields != wanted or len(fields) < 3 or stops != bool(record.flaw) or (len(lines) > 1 and not listed):
-        raise ProgramError(f"the program's line {lines[0]!r} does not fit record {number} of kind {record.kind}")
-    return fields[2]
-
-
 def ask(command, data):
     """Every record of a patch file with the program's answer to it."""
-    records = split(data)
-    groups = groups_of(run(command, data))
-    if len(groups) != len(records):
-        raise ProgramError(f"the program answered {len(groups)} records of {len(records)}")
+    lines = whole(run(command, data).splitlines(keepends=True))
     held = Held()
-    pairs = zip(records, groups)
-    return [held.answer(i, record, tuple(lines)) for i, (record, lines) in enumerate(pairs, 1)]
+    answers = [held.answer(i, record, lines) for i, record in enumerate(split(data), 1)]
+    must_end(lines)
+    return answers

@@ -139,21 +139,24 @@ class WrongPrograms(unittest.TestCase):
     """A program that prints what cannot be an answer is named as the cause, and nothing is shown."""
 
     PRINTS = [
-        ("1 1 0\n2 2 0\n", "answered 2 records of 3"),
-        ("1 1 0\n2 2 0\n3 3 0 0\n4 3 0 0\n", "answered 4 records of 3"),
+        ("1 1 0\n2 2 0\n", "no line for record 3"),
+        ("1 1 0\n2 2 0\n3 3 0 0\n4 3 0 0\n", "'4 3 0 0' stands behind"),
         ("1 1 0\n3 2 0\n3 3 0 0\n", "'3 2 0' does not fit record 2 of kind 2"),
         ("1 1 0\n2 3 0\n3 3 0 0\n", "'2 3 0' does not fit record 2"),
         ("1 1 0\n2 2\n3 3 0 0\n", "'2 2' does not fit"),
         ("1 1 0\n2 2 10\n3 3 0 0\n", "'2 2 10' does not fit"),
         ("1 1 0\n2 2 0\n3 3 0\n", "'3 3 0' does not fit"),
-        ("1 1 0\n2 2 0\n3 3 0 2\n+ 0 0\n", "'3 3 0 2' does not fit"),
-        ("1 1 0\n2 2 0\n+ 0 0\n3 3 0 0\n", "'2 2 0' does not fit"),
-        ("1 1 0\n2 2 0\n3 3 5\n+ 0 0\n", "'3 3 5' does not fit"),
-        ("1 1 0\n2 2 0\n3 3 0 1\n+ 0 0 0\n", "not k = 2 symbols"),
+        ("1 1 0\n2 2 0\n3 3 0 2\n+ 0 0\n", "record 3 has 1 of 2 candidates"),
+        ("1 1 0\n2 2 0\n3 3 0 0\n+ 0 0\n", "'+ 0 0' stands behind"),
+        ("1 1 0\n2 2 0\n+ 0 0\n3 3 0 0\n", "'+ 0 0' does not fit record 3"),
+        ("1 1 0\n2 2 0\n3 3 5\n+ 0 0\n", "'+ 0 0' stands behind"),
+        ("1 1 0\n2 2 0\n3 3 0 1\n+ 0 0 0\n", "not a candidate of k = 2 symbols"),
+        ("1 1 0\n2 2 0\n3 3 0 1\n4 3 0 1\n", "not a candidate of k = 2 symbols"),
         ("1 1 0\n2 2 7\n3 3 0 0\n", "does not fit what it holds"),
-        ("+ 0 0\n1 1 0\n2 2 0\n3 3 0 0\n", "before any record's line"),
-        ("1 1 0\n\n2 2 0\n3 3 0 0\n", "'', which is no line"),
-        ("hello\n", "'hello', which is no line"),
+        ("+ 0 0\n1 1 0\n2 2 0\n3 3 0 0\n", "'+ 0 0' does not fit record 1"),
+        ("1 1 0\n\n2 2 0\n3 3 0 0\n", "'' does not fit record 2"),
+        ("1 1 0\n2 2 0\n3 3 0 1\n+ 0 0", "the last line, '+ 0 0', is cut"),
+        ("hello\n", "'hello' does not fit record 1"),
     ]
 
     def test_prints(self):
@@ -183,7 +186,7 @@ class WrongPrograms(unittest.TestCase):
             self.assertEqual(said, "")
 
     def test_exit_codes(self):
-        reasons = {"false": "ended with 1", "/nowhere/at-all": "No such file", "echo hello": "no line of an answer"}
+        reasons = {"false": "ended with 1", "/nowhere/at-all": "No such file", "echo hello": "does not fit record 1"}
         for program, reason in reasons.items():
             for way in ("lines", "picture"):
                 code_, output, said = look(way, "--program", program, sample("clean"))

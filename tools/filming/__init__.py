@@ -1,0 +1,1 @@
+# The parts of tools/film: cutting a film, joining its outputs, and running it.

@@ -1,0 +1,91 @@
+# A whole film: cut, run and joined in one, in order, with a bounded number of parts on their way.
+import os
+import subprocess
+import tempfile
+from collections import deque
+from concurrent.futures import ThreadPoolExecutor
+
+from filming.joining import numbered, opened, pour
+from filming.parts import cut
+from looking.answers import ProgramError
+from looking.records import stream
+
+LEAST, MOST = 1 << 12, 1 << 19  # bytes of a part: long enough that starting the program does not count, short enough to share out
+AHEAD = 4  # parts for each job that may be on their way
+
+
+def part_size(total, jobs):
+    """Bytes of a part: eight for each job where the film's length is known, within bounds."""
+    return max(LEAST, min(MOST, (total or MOST) // (8 * jobs)))
+
+
+class Runner:
+    """Runs the program on parts, as many at a time as there are jobs; its files are gone when it ends."""
+
+    def __init__(self, program, jobs):
+        self.program = program
+        self.pool = ThreadPoolExecutor(jobs)
+        self.folder = tempfile.TemporaryDirectory(prefix="film-")
+        self.running = set()
+        self.stopped = False
+
+    def __enter__(self):
+        return self
+
+    def __exit__(self, *_):
+        self.stopped = True
+        for process in list(self.running):
+            process.terminate()
+        self.pool.shutdown(cancel_futures=True)
+        self.folder.cleanup()
+
+    def start(self, part):
+        return self.pool.submit(self.answer, part, os.path.join(self.folder.name, str(part.first)))
+
+    def answer(self, part, path):
+        """The path of the part's output, and what the program said on standard error."""
+        with open(path + ".patch", "wb") as file:
+            file.write(part.data())
+        with open(path + ".patch", "rb") as source, open(path + ".out", "wb") as output:
+            process = subprocess.Popen(self.program, stdin=source, stdout=output, stderr=subprocess.PIPE)
+            self.running.add(process)
+            if self.stopped:
+                process.terminate()
+            said = process.communicate()[1].decode("utf-8", "replace").strip()
+            self.running.discard(process)
+        os.unlink(path + ".patch")
+        if process.returncode:
+            raise ProgramError(f"{self.program[0]} ended with {process.returncode}" + (f": {said}" if said else ""))
+        return path + ".out", said
+
+
+def finish(part, answer, fd):
+    """Writes the lines of a part, once the parts before it are written."""
+    said = ""
+    try:
+        path, said = answer.result()
+        with opened(path) as lines:
+            pour(fd, numbered(part, lines))
+    except ProgramError as error:
+        last = part.first + len(part.records) - 1
+        raise ProgramError(f"records {part.first} to {last}: {error}" + (f" ({said})" if said else ""))
+    os.unlink(path)
+
+
+def run(blocks, total, jobs, program, fd, bar):
+    """Writes the film's output."""
+    with Runner(program, jobs) as runner:
+        started = deque()
+        for part in cut(stream(blocks), part_size(total, jobs), lambda record: len(record.data)):
+            started.append((part, runner.start(part)))
+            while len(started) > AHEAD * jobs or (started and started[0][1].done()):
+                advance(started, fd, bar)
+        while started:
+            advance(started, fd, bar)
+
+
+def advance(started, fd, bar):
+    """The first part that is on its way."""
+    part, answer = started.popleft()
+    finish(part, answer, fd)
+    bar.add(len(part.records), sum(len(record.data) for record in part.records))
