@@ -6,5 +6,5 @@ from pathlib import Path
 sys.path.append(str(Path(__file__).resolve().parent.parent / "tools"))
 
 from looking.causes import ROOM  # noqa: F401
-from looking.code import derive, patch_of  # noqa: F401
+from looking.code import accepted_taus, derive, patch_of, refusal_of  # noqa: F401
 from looking.records import join  # noqa: F401

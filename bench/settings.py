@@ -4,7 +4,7 @@ from dataclasses import dataclass
 from functools import cached_property
 from math import comb
 
-from rules import ROOM, derive
+from rules import ROOM, accepted_taus, derive, refusal_of
 
 # The second program takes the curve when more messages or choices of places than this would be tried.
 AFFORDABLE = 200_000
@@ -34,9 +34,7 @@ class Setting:
 
     def refusal(self):
         """3 or 4 of the setting call; p, n, k, s and τ are in their ranges here."""
-        if self.u <= self.c:
-            return 3
-        return 4 if self.l > 24 else 0
+        return refusal_of(self.numbers)
 
     def program_refusal(self):
         """The same, or 8 where the program's work is too small."""
@@ -71,8 +69,7 @@ def half(n, k):
 
 def largest(p, n, k, s):
     """The largest τ that the setting rule accepts, or None."""
-    taken = [tau for tau in range(n) if Setting(p, n, k, s, tau).refusal() == 0]
-    return max(taken, default=None)
+    return max(accepted_taus((p, n, k, s, 0)), default=None)
 
 
 def largest_with_room(p, n, k, s):

@@ -189,9 +189,23 @@ static void release(struct buffer *b) {
     free(b->before);
 }
 
+/* The loop in the header against the setting call: its tau is accepted, the next one and every larger one asked for is
+ * not. */
+static void expect_largest(const size_t v[NUMBERS], unsigned returned) {
+    size_t tau = SIZE_MAX, none;
+    const unsigned refused = whitebeamish_largest_tau(v[0], v[1], v[2], v[3], &tau);
+    const bool found = whitebeamish_setting(v[0], v[1], v[2], v[3], tau, &none, 0) == WHITEBEAMISH_OK;
+    const bool next = whitebeamish_setting(v[0], v[1], v[2], v[3], tau + 1, &none, 0) == WHITEBEAMISH_OK;
+    const bool missed = returned == WHITEBEAMISH_OK && (refused != WHITEBEAMISH_OK || v[4] > tau);
+    if (found != (refused == WHITEBEAMISH_OK) || (found && next) || missed)
+        fail(1, "not the largest", "tau");
+}
+
 static void answer_request(struct request *q) {
     const struct form *form = q->form;
     const unsigned returned = form->runs > 0 ? call_with_runs(q) : call_without_runs(q);
+    if (strcmp(form->name, "setting") == 0)
+        expect_largest(q->numbers, returned);
     for (size_t i = 0; i < form->runs; i++)
         expect_kept(&q->runs[i], i >= form->runs - form->lent, form->name);
     if (form->answer)

@@ -61,20 +61,22 @@ static void print_readings(struct setting a, const uint16_t *points, const uint1
     free(work);
 }
 
-/* 32 marks that carry 8 symbols. Half the distance mends 12 wrong marks; here 15 are wrong. */
+/* 32 marks that carry 8 symbols. Half the distance mends 12 wrong marks; here 15 are wrong, as many as multiplicity 2
+ * allows. */
 static void damaged(void) {
-    const struct setting a = {929, 32, 8, 2, 15};
+    struct setting a = {929, 32, 8, 2, 0};
     const uint16_t message[8] = {1, 740, 15, 928, 0, 303, 66, 5};
     uint16_t points[32], word[32];
+    expect(whitebeamish_largest_tau(a.p, a.n, a.k, a.s, &a.tau), "largest_tau");
     for (size_t j = 0; j < 32; j++)
         points[j] = (uint16_t)j;
     expect(whitebeamish_encode(a.p, a.n, a.k, points, a.n, message, a.k, word, a.n), "encode");
     print("message:", message, 8);
     print("\npatch:  ", word, 32);
-    for (size_t j = 0; j < 15; j++)
+    for (size_t j = 0; j < a.tau; j++)
         word[2 * j] = (uint16_t)((word[2 * j] + 100 + 37 * j) % a.p);
     print("\nword:   ", word, 32);
-    puts("\n15 marks are wrong");
+    printf("\n%zu marks are wrong\n", a.tau);
     print_readings(a, points, word);
 }
 
@@ -92,5 +94,10 @@ int main(void) {
     damaged();
     puts("");
     seven();
+    /* A list of which a part was lost looks like a whole one: say so. */
+    if (ferror(stdout) != 0 || fclose(stdout) != 0) {
+        perror("standard output");
+        return EXIT_FAILURE;
+    }
     return 0;
 }

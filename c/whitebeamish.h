@@ -47,8 +47,8 @@ extern "C" {
  *   C = n * s * (s + 1) / 2
  *   U = the sum of W - t * (k - 1) for t from 0 to l
  *   R = (l + k + 4) * (l + 1) * W
- * A setting is accepted when U > C and l <= 24. Too large a tau is refused with 3, too small a one with 4. For the
- * largest that is accepted ask whitebeamish_setting from n - 1 downwards.
+ * A setting is accepted when U > C and l <= 24. Too large a tau is refused with 3, too small a one with 4;
+ * whitebeamish_largest_tau finds the largest that is accepted.
  *
  * Room, in numbers of 16 bits: output l * k (encode: n), curve buffer (l + 1) * W, work R. A longer buffer is taken as
  * well. All else has an exact length: points and word n, message k, a proposed curve (l + 1) * W. */
@@ -117,6 +117,19 @@ uint16_t whitebeamish_inverse(size_t p, uint16_t a, size_t *answer, size_t answe
 /* Answer: 5 numbers, W, l, C, U and R. Refusals: 1, 2, 3, 4. */
 uint16_t whitebeamish_setting(size_t p, size_t n, size_t k, size_t s, size_t tau,
                               size_t *answer, size_t answer_length);
+
+/* How much damage can be allowed: the largest tau that is accepted with p, n, k and s. A loop over the setting call.
+ * With WHITEBEAMISH_OK *tau is that number. Otherwise *tau is untouched and no tau is accepted: 1 or 2 for their causes,
+ * 4 where each tau is refused with 3 or 4. */
+static inline uint16_t whitebeamish_largest_tau(size_t p, size_t n, size_t k, size_t s, size_t *tau) {
+    size_t none, tried = n < WHITEBEAMISH_N_MAX ? n : WHITEBEAMISH_N_MAX;
+    while (tried > 0)
+        if (whitebeamish_setting(p, n, k, s, --tried, &none, 0) == WHITEBEAMISH_OK) {
+            *tau = tried;
+            return WHITEBEAMISH_OK;
+        }
+    return whitebeamish_setting(p, n, k, s, 0, &none, 0);
+}
 
 /* ---- Writing a patch ---- */
 

@@ -9,7 +9,8 @@ fn main() {
     println!("cargo:rerun-if-env-changed=WHITEBEAMISH_LIB");
     let target = ["ARCH", "OS", "POINTER_WIDTH"].map(|name| variable(&format!("CARGO_CFG_TARGET_{name}")));
     if target != ["x86_64", "linux", "64"] {
-        stop(&format!("the archive has x86-64 Linux code and cannot be linked for {}", variable("TARGET")));
+        let arm = "docs/ARM.md in the repository says how to build and run it on Arm";
+        stop(&format!("the archive has x86-64 Linux code and cannot be linked for {}; {arm}", variable("TARGET")));
     }
     let folder = match env::var_os("WHITEBEAMISH_LIB") {
         Some(folder) => PathBuf::from(folder),

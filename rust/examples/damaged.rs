@@ -9,9 +9,10 @@ fn main() -> Result<(), Refusal> {
     seven()
 }
 
-/// 32 marks that carry 8 symbols. Half the distance mends 12 wrong marks; here 15 are wrong.
+/// 32 marks that carry 8 symbols. Half the distance mends 12 wrong marks; here 15 are wrong, as many as multiplicity 2
+/// allows.
 fn damaged() -> Result<(), Refusal> {
-    let setting = Setting::new(929, 32, 8, 2, 15)?;
+    let setting = Setting::largest(929, 32, 8, 2)?;
     let message = [1, 740, 15, 928, 0, 303, 66, 5];
     let points: Vec<u16> = (0..32).collect();
     let patch = setting.encode(&points, &message)?;

@@ -11,6 +11,9 @@
 //! # Ok::<(), whitebeamish::Refusal>(())
 //! ```
 //!
+//! How much damage can be allowed is for [`Setting::largest`] to say; a setting with more is refused, and the error
+//! names the largest τ that is accepted.
+//!
 //! A caller that keeps its buffers from word to word takes the calls in [`raw`], which are safe too.
 #![deny(unsafe_code)]
 
@@ -21,5 +24,5 @@ mod refusal;
 mod setting;
 
 pub use raw::Parameters;
-pub use refusal::Refusal;
+pub use refusal::{Refusal, Taus};
 pub use setting::{encode, Derived, Reading, Setting};

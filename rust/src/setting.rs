@@ -1,7 +1,7 @@
 //! An accepted setting, and the calls under it. They allocate the room that they need.
 
 use crate::raw::{self, Parameters};
-use crate::refusal::Refusal;
+use crate::refusal::{Refusal, Taus};
 
 /// The numbers that follow from p, n, k, s and τ.
 #[derive(Clone, Copy, Debug, PartialEq, Eq, Hash)]
@@ -35,8 +35,21 @@ pub struct Reading {
 }
 
 impl Setting {
-    /// Refusals 1 to 4.
+    /// Refusals 1 to 4; 3 and 4 say which τ are accepted.
     pub fn new(p: usize, n: usize, k: usize, s: usize, tau: usize) -> Result<Setting, Refusal> {
+        Setting::ask(p, n, k, s, tau).map_err(|refusal| match refusal {
+            Refusal::TooFewTerms(_) => Refusal::TooFewTerms(taus(p, n, k, s)),
+            Refusal::ListTooLong(_) => Refusal::ListTooLong(taus(p, n, k, s)),
+            other => other,
+        })
+    }
+
+    /// The setting with the largest τ that is accepted. Refusals 1, 2; 4 where no τ is.
+    pub fn largest(p: usize, n: usize, k: usize, s: usize) -> Result<Setting, Refusal> {
+        accepted(p, n, k, s).next_back().map_or_else(|| Setting::new(p, n, k, s, 0), Ok)
+    }
+
+    fn ask(p: usize, n: usize, k: usize, s: usize, tau: usize) -> Result<Setting, Refusal> {
         let parameters = Parameters { p, n, k, s, tau };
         let mut answer = [0; 5];
         Refusal::test(raw::setting(parameters, &mut answer))?;
@@ -107,6 +120,19 @@ impl Setting {
     fn reading(&self, output: &[u16], [found, beginnings]: [usize; 2]) -> Reading {
         let messages = output.chunks(self.parameters.k).take(found).map(<[u16]>::to_vec).collect();
         Reading { messages, beginnings }
+    }
+}
+
+/// The settings that are accepted, τ rising. An n above 64 is refused whatever τ is.
+fn accepted(p: usize, n: usize, k: usize, s: usize) -> impl DoubleEndedIterator<Item = Setting> {
+    (0..n.min(64)).filter_map(move |tau| Setting::ask(p, n, k, s, tau).ok())
+}
+
+fn taus(p: usize, n: usize, k: usize, s: usize) -> Taus {
+    let mut tau = accepted(p, n, k, s).map(|setting| setting.parameters.tau);
+    match (tau.next(), tau.next_back()) {
+        (Some(first), last) => Taus::Between(first, last.unwrap_or(first)),
+        (None, _) => Taus::None,
     }
 }
 

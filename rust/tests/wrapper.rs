@@ -2,7 +2,7 @@
 
 use second::make::requests::{request, round};
 use second::request::{Reply, Request};
-use whitebeamish::{encode, field, Reading, Refusal, Setting};
+use whitebeamish::{encode, field, Reading, Refusal, Setting, Taus};
 
 /// The second program's reply where the room is exactly what is needed and the answer has just its results.
 fn expected(request: &Request, rooms: &[usize]) -> Reply {
@@ -103,7 +103,43 @@ fn seven() {
     assert_eq!(setting.list(&POINTS, &WORD, &curve).unwrap(), two);
     assert_eq!(setting.find(&POINTS, &WORD[1..]), Err(Refusal::WrongLength));
     assert!(Setting::new(7, 7, 2, 1, 2).unwrap().read(&POINTS, &WORD).unwrap().messages.is_empty());
-    assert_eq!(Setting::new(7, 7, 2, 1, 4), Err(Refusal::TooFewTerms));
+    assert_eq!(Setting::new(7, 7, 2, 1, 4), Err(Refusal::TooFewTerms(Taus::Between(0, 3))));
+}
+
+/// The setting call of the second program, which must take the same τ.
+fn accepted(p: usize, n: usize, k: usize, s: usize) -> Vec<usize> {
+    let taken = |tau: &usize| {
+        let call = Request::parse(&format!("setting {p} {n} {k} {s} {tau} 5=0")).unwrap();
+        call.reply(None).returned == 0
+    };
+    (0..n).filter(taken).collect()
+}
+
+#[test]
+fn largest() {
+    for (n, k, s) in (2..=64).step_by(3).flat_map(|n| (2..=n).step_by(2).flat_map(move |k| (1..=4).map(move |s| (n, k, s)))) {
+        let taken = accepted(929, n, k, s);
+        let found = Setting::largest(929, n, k, s).map(|setting| setting.parameters().tau);
+        assert_eq!(found.ok(), taken.last().copied(), "{n} {k} {s}");
+    }
+    assert_eq!(Setting::largest(929, 32, 8, 4).unwrap().parameters().tau, 16);
+    assert_eq!(Setting::largest(929, 64, 2, 4), Err(Refusal::ListTooLong(Taus::None)));
+    assert_eq!(Setting::largest(928, 7, 2, 1), Err(Refusal::NoModulus));
+    for n in [0, 1, 65, usize::MAX] {
+        assert_eq!(Setting::largest(929, n, 2, 1), Err(Refusal::OutOfRange));
+    }
+    for (tau, s, words) in [
+        (17, 4, "refused with 3: U ≤ C: τ is too large; the largest accepted is 16"),
+        (32, 4, "refused with 2: n, k, s or τ is outside its range"),
+    ] {
+        assert_eq!(Setting::new(929, 32, 8, s, tau).unwrap_err().to_string(), words);
+    }
+    for (tau, s, words) in [
+        (38, 1, "refused with 4: ℓ > 24: τ is too small; the smallest accepted is 39"),
+        (56, 4, "refused with 3: U ≤ C: τ is too large; no τ is accepted with this n, k and s"),
+    ] {
+        assert_eq!(Setting::new(929, 64, 2, s, tau).unwrap_err().to_string(), words);
+    }
 }
 
 #[test]
@@ -121,6 +157,6 @@ fn refusals() {
     for (number, refusal) in (1..).zip(Refusal::ALL) {
         assert_eq!((refusal.number(), Refusal::test(number)), (number, Err(refusal)));
     }
-    assert_eq!(Refusal::TooFewTerms.to_string(), "refused with 3: U ≤ C");
+    assert_eq!(Refusal::ALL[2].to_string(), "refused with 3: U ≤ C: τ is too large");
     assert_eq!(encode(7, usize::MAX, 2, &POINTS, &[3, 2]), Err(Refusal::OutOfRange));
 }

@@ -1,5 +1,6 @@
 # The outputs of the parts, each held against its part, as the one output of the film.
 import os
+from collections import deque
 
 from filming.parts import FilmError, load, rows
 from looking.answers import ProgramError, lines_of, must_end, whole
@@ -28,46 +29,43 @@ def opened(path):
     return open(path, encoding="ascii", errors="replace", newline="\n")
 
 
-def pour(fd, texts):
-    """Writes texts in chunks."""
+def pour(texts):
+    """Writes texts to standard output, in chunks."""
     chunk, size = [], 0
     for text in texts:
         chunk.append(text)
         size += len(text)
         if size >= CHUNK:
-            write_all(fd, "".join(chunk).encode())
+            write_all("".join(chunk).encode())
             chunk, size = [], 0
-    write_all(fd, "".join(chunk).encode())
+    write_all("".join(chunk).encode())
 
 
-def outputs(folder):
-    """For each part its texts; they are read and checked as they are taken."""
-    for row in rows(folder):
-        path = os.path.join(folder, row[0] + ".out")
+def texts(folder, row):
+    """The texts of one part, read and checked as they are taken; a FilmError names the file that is not as it must be."""
+    path = os.path.join(folder, row[0] + ".out")
+    try:
         with opened(path) as lines:
-            yield path, numbered(load(folder, row), lines)
+            yield from numbered(load(folder, row), lines)
+    except FileNotFoundError as error:
+        raise FilmError(f"{error.filename} is missing")
+    except ProgramError as error:
+        raise FilmError(f"{path}: {error}")
 
 
 def faults(folder):
-    """What is wrong with any part: a line for each, so that all of them can be run again before the next try."""
+    """What is wrong, a line for each part, so that all of these can be run again before the next try."""
     for row in rows(folder):
-        path = os.path.join(folder, row[0] + ".out")
         try:
-            with opened(path) as lines:
-                for _ in numbered(load(folder, row), lines):
-                    pass
-        except FileNotFoundError as error:
-            yield f"{error.filename} is missing"
+            deque(texts(folder, row), maxlen=0)
         except FilmError as error:
             yield str(error)
-        except ProgramError as error:
-            yield f"{path}: {error}"
 
 
-def join(folder, fd):
-    """Writes the film's output when every part is whole."""
+def join(folder):
+    """Writes the film's output once every part is seen to be whole."""
     found = list(faults(folder))
     if found:
         raise FilmError("\n".join(found))
-    for _, texts in outputs(folder):
-        pour(fd, texts)
+    for row in rows(folder):
+        pour(texts(folder, row))

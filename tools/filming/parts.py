@@ -1,5 +1,6 @@
 # A film cut into parts. Each is a patch file that can be read by itself: it begins with the records before the cut on which its answers depend.
 import os
+import re
 from typing import List, NamedTuple
 
 from looking.records import MOST_BYTES, Record, stream
@@ -50,7 +51,7 @@ def cut(records, limit, weight=lambda record: 1):
         yield part
 
 
-def split(fd, folder, count):
+def split(blocks, folder, count):
     """Writes the parts, `count` records to each, and last the table by which they are joined; says how many parts and records there are."""
     os.makedirs(folder, exist_ok=True)
     if os.listdir(folder):
@@ -58,7 +59,7 @@ def split(fd, folder, count):
     parts = records = 0
     unfinished = os.path.join(folder, TABLE + ".new")
     with open(unfinished, "x") as table:
-        for part in cut(stream(read_blocks(fd)), count):
+        for part in cut(stream(blocks), count):
             parts, records = parts + 1, records + len(part.records)
             name = f"{parts:06}"
             with open(os.path.join(folder, name + ".patch"), "xb") as file:
@@ -76,11 +77,14 @@ def rows(folder):
         raise FilmError(f"{folder} has no {TABLE}, so it was not split, or not to the end")
     with open(name) as table:
         for line in table:
-            name, *numbers = line.split()
-            if name == "end":
-                return
-            yield (name, *map(int, numbers))
-    raise FilmError(f"{folder}/{TABLE} is cut")
+            row = re.fullmatch(r"([0-9]+) ([0-9]+) ([0-9]+) ([0-2])\n", line)
+            if not row:
+                break
+            yield (row[1], *map(int, row.groups()[1:]))
+        else:
+            line = ""
+    if not re.fullmatch(r"end [0-9]+ [0-9]+\n", line):
+        raise FilmError(f"{name} is cut or changed")
 
 
 def load(folder, row):
@@ -88,7 +92,7 @@ def load(folder, row):
     name, first, own, repeated = row
     path = os.path.join(folder, name + ".patch")
     with open(path, "rb") as file:
-        records = list(stream(read_blocks(file.fileno())))
+        records = list(stream(read_blocks(file.fileno(), path)))
     if len(records) != repeated + own:
         raise FilmError(f"{path} has {len(records)} records, not {repeated + own}")
     return Part(first, records[:repeated], records[repeated:])

@@ -44,8 +44,11 @@ class Runner:
 
     def answer(self, part, path):
         """The path of the part's output, and what the program said on standard error."""
-        with open(path + ".patch", "wb") as file:
-            file.write(part.data())
+        try:
+            with open(path + ".patch", "wb") as file:
+                file.write(part.data())
+        except OSError as error:
+            raise ProgramError(f"{path}.patch: {error.strerror}")
         with open(path + ".patch", "rb") as source, open(path + ".out", "wb") as output:
             process = subprocess.Popen(self.program, stdin=source, stdout=output, stderr=subprocess.PIPE)
             self.running.add(process)
@@ -59,33 +62,33 @@ class Runner:
         return path + ".out", said
 
 
-def finish(part, answer, fd):
+def finish(part, answer):
     """Writes the lines of a part, once the parts before it are written."""
     said = ""
     try:
         path, said = answer.result()
         with opened(path) as lines:
-            pour(fd, numbered(part, lines))
+            pour(numbered(part, lines))
     except ProgramError as error:
         last = part.first + len(part.records) - 1
         raise ProgramError(f"records {part.first} to {last}: {error}" + (f" ({said})" if said else ""))
     os.unlink(path)
 
 
-def run(blocks, total, jobs, program, fd, bar):
-    """Writes the film's output."""
+def run(blocks, total, jobs, program, bar):
+    """Writes the film's output to standard output."""
     with Runner(program, jobs) as runner:
         started = deque()
         for part in cut(stream(blocks), part_size(total, jobs), lambda record: len(record.data)):
             started.append((part, runner.start(part)))
             while len(started) > AHEAD * jobs or (started and started[0][1].done()):
-                advance(started, fd, bar)
+                advance(started, bar)
         while started:
-            advance(started, fd, bar)
+            advance(started, bar)
 
 
-def advance(started, fd, bar):
+def advance(started, bar):
     """The first part that is on its way."""
     part, answer = started.popleft()
-    finish(part, answer, fd)
+    finish(part, answer)
     bar.add(len(part.records), sum(len(record.data) for record in part.records))

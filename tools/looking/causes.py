@@ -1,5 +1,5 @@
 # What a refusal number says: document 01's words, and the numbers at hand that bear them out.
-from looking.code import derive
+from looking.code import accepted_taus, derive
 
 ROOM = 24000  # numbers of work that the program has
 
@@ -7,8 +7,8 @@ ROOM = 24000  # numbers of work that the program has
 CAUSES = {
     1: "p not a prime from 2 to 929",
     2: "n, k, s or τ outside its range",
-    3: "U ≤ C",
-    4: "ℓ > 24",
+    3: "U ≤ C: τ is too large",
+    4: "ℓ > 24: τ is too small",
     5: "points or word not n long",
     6: "a symbol not below p",
     7: "two equal points",
@@ -57,9 +57,19 @@ def detail_of_marks(refusal, marks, setting):
     return ""
 
 
+def limit(refusal, setting):
+    """Where τ is refused, which one would not be."""
+    taus = accepted_taus(setting)
+    if not taus:
+        return "; no τ is accepted with this n, k and s"
+    return f"; the largest accepted is {taus[-1]}" if refusal == 3 else f"; the smallest accepted is {taus[0]}"
+
+
 def cause(refusal, record, setting):
     """A refusal in words; `setting` is the one given or held, or None."""
     words = CAUSES.get(refusal, "a number that document 01 does not have")
+    if refusal in (3, 4) and record.kind == 1 and not outside(setting):
+        words += limit(refusal, setting)
     detail = ""
     if record.flaw:
         words = record.flaw

@@ -24,3 +24,17 @@ def derive(setting):
     C = n * s * (s + 1) // 2
     U = sum(W - t * (k - 1) for t in range(l + 1))
     return Derived(W, l, C, U, (l + k + 4) * (l + 1) * W)
+
+
+def refusal_of(setting):
+    """3, 4 or 0, of a setting in range."""
+    d = derive(setting)
+    if d.U <= d.C:
+        return 3
+    return 4 if d.l > 24 else 0
+
+
+def accepted_taus(setting):
+    """Every τ that is accepted with the setting's n, k and s."""
+    p, n, k, s, _ = setting
+    return [tau for tau in range(n) if refusal_of(Setting(p, n, k, s, tau)) == 0]

@@ -75,7 +75,9 @@ class Reader:
         try:
             text = raw.decode("utf-8")
         except UnicodeDecodeError:
-            self.fail("not UTF-8 text; is this a patch file? `look text` reads those")
+            text = "\0"
+        if "\0" in text:
+            self.fail("this is no text; is it a patch file? `look text` reads those")
         fields = text.split("#", 1)[0].split()
         if not fields:
             return b""

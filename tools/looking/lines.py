@@ -65,6 +65,8 @@ def beside(line, words, column):
 
 def show(answers):
     """The whole file as text."""
+    if not answers:
+        return "no record\n"
     width = width_of([answer.record for answer in answers])
     lengths = [len(line) for answer in answers for line in answer.lines]
     column = max((x for x in lengths if x <= WIDEST), default=0)

@@ -1,9 +1,11 @@
-# What the tests of tools/look share: files, what the program prints for them, a fake program, and a run of the command.
+# What the tests share: files, what the program prints for them, real programs and a fake one, and a run of tools/look.
 import os
 import shlex
+import shutil
 import subprocess
 import sys
 import tempfile
+import unittest
 from pathlib import Path
 
 sys.dont_write_bytecode = True
@@ -31,6 +33,25 @@ def look(*args, data=b""):
     command = [sys.executable, str(TOP / "tools" / "look"), *map(str, args)]
     done = subprocess.run(command, input=data, stdout=subprocess.PIPE, stderr=subprocess.PIPE)
     return done.returncode, done.stdout, done.stderr.decode()
+
+
+def patch_program():
+    """The patch program by tools/run, or None where it is not built."""
+    there = (TOP / "target/bin/patch").exists() and shutil.which("rt")
+    return [str(TOP / "tools" / "run"), "patch"] if there else None
+
+
+def program():
+    """A program that answers patch files: the second one, which starts sooner, or the patch program."""
+    second = TOP / "second/target/release/second"
+    return [str(second), "patch"] if second.exists() else patch_program()
+
+
+def needs(found, words):
+    """Skips the tests of a class, and says so, where there is no such program."""
+    if found() is None:
+        print(f"tools/tests: skipped, {words}")
+    return unittest.skipIf(found() is None, words)
 
 
 class Fake:

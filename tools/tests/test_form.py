@@ -170,9 +170,10 @@ class Errors(unittest.TestCase):
                 self.assertIn(reason, str(caught.exception))
 
     def test_not_text(self):
-        with self.assertRaises(form.TextError) as caught:
-            form.read(b"word 1\n\xff\xfe")
-        self.assertIn("line 2: not UTF-8", str(caught.exception))
+        for data, line in [(b"word 1\n\xff\xfe", 2), (sample("clean").read_bytes(), 1)]:
+            with self.assertRaises(form.TextError) as caught:
+                form.read(data)
+            self.assertIn(f"line {line}: this is no text", str(caught.exception))
 
     def test_command(self):
         code, output, said = look("patch", "-", data=b"word 1\nwrod 1\n")

@@ -1,9 +1,8 @@
 # The lines in words: causes, agreement, wrong programs, and the real program where it is built.
 import random
-import shutil
 import unittest
 
-from cases import PRINTED, TOP, Fake, look, sample
+from cases import PRINTED, Fake, look, needs, patch_program, sample
 from looking import answers, causes, code, lines
 from looking.code import Setting
 from looking.form import read
@@ -27,8 +26,8 @@ EVERY_REFUSAL = [
     "refused 12: points with no setting held",
     "refused 1: p not a prime from 2 to 929 (p is 928)",
     "refused 2: n, k, s or τ outside its range (k 9 is not in 2 to 7)",
-    "refused 3: U ≤ C (W 3, ℓ 2, C 7, U 6, R 72)",
-    "refused 4: ℓ > 24 (W 26, ℓ 25, C 64, U 351, R 20956)",
+    "refused 3: U ≤ C: τ is too large; the largest accepted is 3 (W 3, ℓ 2, C 7, U 6, R 72)",
+    "refused 4: ℓ > 24: τ is too small; the smallest accepted is 39 (W 26, ℓ 25, C 64, U 351, R 20956)",
     "refused 8: work under R (W 192, ℓ 6, C 640, U 693, R 56448; the program has 24000)",
     "refused 12: points with no setting held",
     "accepted: W 4, ℓ 3, C 7, U 10, R 144",
@@ -88,7 +87,7 @@ class Shown(unittest.TestCase):
         self.assertIn("# and 59 more such lines", shown)
 
     def test_empty_file(self):
-        self.assertEqual(lines.show(ask("", b"")), "")
+        self.assertEqual(lines.show(ask("", b"")), "no record\n")
 
 
 class Worked(unittest.TestCase):
@@ -195,23 +194,13 @@ class WrongPrograms(unittest.TestCase):
                 self.assertNotIn("Traceback", said)
 
 
+@needs(patch_program, "target/bin/patch is not built or there is no rt, so the real program was not asked")
 class RealProgram(unittest.TestCase):
     def test_samples(self):
-        missing = [
-            words
-            for words, there in [
-                ("target/bin/patch is not built", (TOP / "target/bin/patch").exists()),
-                ("there is no rt", shutil.which("rt")),
-            ]
-            if not there
-        ]
-        if missing:
-            print(f"look: skipped, {' and '.join(missing)}, so the real program was not asked")
-            self.skipTest(missing[0])
         for name, printed in PRINTED.items():
             data = sample(name).read_bytes()
             with self.subTest(name):
-                self.assertEqual(answers.run([str(TOP / "tools/run"), "patch"], data), printed)
+                self.assertEqual(answers.run(patch_program(), data), printed)
         self.assertEqual(look("lines", sample("two-readings")), (0, TWO_READINGS.encode(), ""))
 
 

@@ -1,0 +1,234 @@
+# tools/run: what the system's faults do to a reading, many users at once, and its words.
+import ctypes
+import mmap
+import os
+import resource
+import shutil
+import signal
+import subprocess
+import tempfile
+import threading
+import time
+import unittest
+from pathlib import Path
+
+from cases import PRINTED, TOP, needs, patch_program, sample
+from looking.records import join
+
+RUN = str(TOP / "tools" / "run")
+SEVEN = [join(1, (7, 7, 2, 1, 3)), join(2, range(7))]
+WORDS = 6000
+REEL = b"".join(SEVEN) + join(3, (0, 0, 0, 0, 4, 5, 6)) * WORDS  # about 120 KB of output: more than a pipe holds
+LINES = "1 1 0\n2 2 0\n" + "".join(f"{i} 3 0 2\n+ 0 0\n+ 0 1\n" for i in range(3, WORDS + 3))
+WHOLE = LINES.encode()
+
+
+def run(stdin, stdout=subprocess.PIPE, **more):
+    """Exit code, output and errors of the patch program, on a file, a descriptor or nothing."""
+    done = subprocess.run(patch_program(), stdin=stdin, stdout=stdout, stderr=subprocess.PIPE, **more)
+    return done.returncode, done.stdout, done.stderr.decode()
+
+
+def reel():
+    """The reel as a file to read."""
+    file = tempfile.TemporaryFile()
+    file.write(REEL)
+    file.seek(0)
+    return file
+
+
+def slowly(fd, start):
+    """All bytes of a descriptor, in small pieces, from `start` seconds on."""
+    time.sleep(start)
+    pieces = []
+    while True:
+        piece = os.read(fd, 5000)
+        if not piece:
+            return b"".join(pieces)
+        pieces.append(piece)
+        time.sleep(0.001)
+
+
+@needs(patch_program, "target/bin/patch is not built or there is no rt, so no fault was tried")
+class Faults(unittest.TestCase):
+    """A list with a candidate missing must never look whole: each fault gives all of the output, or a front part, a status that is not 0 and a message."""
+
+    def assert_told(self, code, output, said, words):
+        self.assertEqual(code, 1, said)
+        self.assertTrue(WHOLE.startswith(output))
+        self.assertNotEqual(output, WHOLE)
+        self.assertEqual(said.count("\n"), 1, said)
+        self.assertIn(words, said)
+
+    def test_full_device(self):
+        with reel() as file, open("/dev/full", "wb") as full:
+            code, _, said = run(file, full)
+        self.assert_told(code, b"", said, "patch: cannot write to standard output: No space left on device")
+
+    def test_full_disk(self):
+        """A file system of 16 KB, in a name space of our own; where that may not be made, the next test stands for it."""
+        script = 'mount -t tmpfs -o size=16k none "$0" && { "$@" > "$0/out"; code=$?; cat "$0/out"; exit $code; }'
+        with tempfile.TemporaryDirectory() as room, reel() as file:
+            for space in (["unshare", "-m"], ["unshare", "-rm"]):
+                if subprocess.run([*space, "mount", "-t", "tmpfs", "none", room], stderr=subprocess.DEVNULL).returncode == 0:
+                    command = [*space, "sh", "-c", script, room, *patch_program()]
+                    done = subprocess.run(command, stdin=file, stdout=subprocess.PIPE, stderr=subprocess.PIPE)
+                    self.assertGreater(len(done.stdout), 10000)
+                    self.assert_told(done.returncode, done.stdout, done.stderr.decode(), "No space left on device")
+                    return
+        print("tools/tests: skipped, a small file system may not be mounted here")
+        self.skipTest("no mount")
+
+    def limited(self, handler):
+        """The code, output and errors where a file may have 16 KB."""
+
+        def limit():
+            signal.signal(signal.SIGXFSZ, handler)
+            resource.setrlimit(resource.RLIMIT_FSIZE, (16384, 16384))
+
+        with reel() as file, tempfile.TemporaryFile() as output:
+            code, _, said = run(file, output, preexec_fn=limit)
+            output.seek(0)
+            return code, output.read(), said
+
+    def test_file_that_may_not_grow(self):
+        self.assert_told(*self.limited(signal.SIG_IGN), "File too large")
+        code, output, _ = self.limited(signal.SIG_DFL)
+        self.assertNotEqual(code, 0)
+        self.assertTrue(WHOLE.startswith(output))
+
+    def test_output_that_is_not_ready(self):
+        read, write = os.pipe()
+        os.set_blocking(write, False)
+        got = []
+        reader = threading.Thread(target=lambda: got.append(slowly(read, 1.5)))
+        reader.start()
+        with reel() as file:
+            code, _, said = run(file, write)
+        os.close(write)
+        reader.join()
+        os.close(read)
+        self.assertEqual((code, said), (0, ""))
+        self.assertEqual(got[0], WHOLE)
+
+    def test_input_that_is_not_ready(self):
+        read, write = os.pipe()
+        os.set_blocking(read, False)
+
+        def feed():
+            for at in range(0, len(REEL), 20000):
+                time.sleep(0.2)
+                os.write(write, REEL[at : at + 20000])
+            os.close(write)
+
+        writer = threading.Thread(target=feed)
+        writer.start()
+        self.assertEqual(run(read), (0, WHOLE, ""))
+        writer.join()
+        os.close(read)
+
+    def test_directory(self):
+        with tempfile.TemporaryDirectory() as room:
+            fd = os.open(room, os.O_RDONLY)
+            code, output, said = run(fd)
+            os.close(fd)
+        self.assert_told(code, output, said, "patch: cannot read standard input: Is a directory")
+
+    def test_input_that_fails_inside_a_record(self):
+        """Memory that ends in the middle of record 4, read as a file: that is no end of the input, so there is no refusal 10."""
+        page = mmap.PAGESIZE
+        libc = ctypes.CDLL(None, use_errno=True)
+        libc.mmap.restype, libc.mmap.argtypes = ctypes.c_void_p, [ctypes.c_void_p, ctypes.c_size_t] + [ctypes.c_int] * 3 + [ctypes.c_long]
+        libc.munmap.argtypes = [ctypes.c_void_p, ctypes.c_size_t]
+        start = libc.mmap(None, 2 * page, mmap.PROT_READ | mmap.PROT_WRITE, mmap.MAP_PRIVATE | mmap.MAP_ANONYMOUS, -1, 0)
+        libc.munmap(start + page, page)
+        data = REEL[: 14 + 18 + 18 + 7]
+        ctypes.memmove(start + page - len(data), data, len(data))
+        with open("/proc/self/mem", "rb", buffering=0) as memory:
+            memory.seek(start + page - len(data))
+            code, output, said = run(memory)
+        libc.munmap(start, page)
+        self.assert_told(code, output, said, "patch: cannot read standard input: Input/output error")
+        self.assertEqual(output.decode(), "1 1 0\n2 2 0\n3 3 0 2\n+ 0 0\n+ 0 1\n")
+
+    def test_closed(self):
+        for close, words in [("<&-", "standard input is closed"), (">&-", "standard output is closed")]:
+            command = ["sh", "-c", f'"$0" patch {close}', RUN]
+            done = subprocess.run(command, stdin=subprocess.DEVNULL, stdout=subprocess.PIPE, stderr=subprocess.PIPE)
+            self.assertEqual((done.returncode, done.stdout), (1, b""))
+            self.assertIn(words, done.stderr.decode())
+        command = ["sh", "-c", '"$0" patch "$1" 2>&-', RUN, str(sample("clean"))]
+        self.assertEqual(subprocess.run(command, stdout=subprocess.PIPE).stdout.decode(), PRINTED["clean"])
+
+    def test_reader_that_goes(self):
+        read, write = os.pipe()
+        with reel() as file:
+            process = subprocess.Popen(patch_program(), stdin=file, stdout=write, stderr=subprocess.PIPE)
+            os.close(write)
+            os.read(read, 10)
+            os.close(read)
+            process.communicate()
+        self.assertNotEqual(process.returncode, 0)
+
+    def test_other_programs(self):
+        with open("/dev/full", "wb") as full:
+            done = subprocess.run([RUN, "numbers"], stdout=full, stderr=subprocess.PIPE)
+        self.assertEqual((done.returncode, done.stderr.count(b"numbers: cannot write to standard output")), (1, 1))
+
+
+@needs(patch_program, "target/bin/patch is not built or there is no rt, so tools/run was not tried")
+class Words(unittest.TestCase):
+    def asked(self, *args, data=b""):
+        done = subprocess.run([RUN, *map(str, args)], input=data, stdout=subprocess.PIPE, stderr=subprocess.PIPE)
+        return done.returncode, done.stdout.decode(), done.stderr.decode()
+
+    def test_file(self):
+        self.assertEqual(self.asked("patch", sample("clean")), (0, PRINTED["clean"], ""))
+        self.assertEqual(self.asked("patch", "-", data=sample("clean").read_bytes()), (0, PRINTED["clean"], ""))
+        code, output, said = self.asked("patch", "/nowhere/at-all")
+        self.assertEqual((code, output), (1, ""))
+        self.assertIn("/nowhere/at-all: No such file", said)
+
+    def test_usage(self):
+        for words in (["-h"], ["--help"]):
+            code, output, said = self.asked(*words)
+            self.assertEqual((code, said), (0, ""))
+            self.assertIn("calls numbers patch", output)
+        for words in ([], ["patch", "a", "b"], ["-x"], ["nothing"]):
+            code, output, said = self.asked(*words)
+            self.assertEqual((code, output), (2, ""))
+            self.assertTrue(said)
+
+
+class AtOnce(unittest.TestCase):
+    """Ten users of a tree that is due for building, with a kit that builds slowly and does not bear two builds at a time."""
+
+    KIT = {
+        "rt": 'case $1 in doc) echo "$KIT/docs/START-HERE.md" ;; check) mkdir "$KIT/busy" || exit 1; echo built >> "$KIT/log"; sleep 0.5\n'
+        'mkdir -p target/bin; printf "#!/bin/sh\\ncat\\n" > target/bin/$2; chmod +x target/bin/$2; rmdir "$KIT/busy" ;; esac\n',
+        "toolchain/lib/ld-linux-x86-64.so.2": 'shift 2; exec "$@"\n',
+    }
+
+    def test_ten(self):
+        with tempfile.TemporaryDirectory() as room:
+            top, kit = Path(room, "tree"), Path(room, "kit")
+            (top / "crates/patch/src").mkdir(parents=True)
+            (top / "crates/patch/src/main.rt").write_text("")
+            (top / "crates.txt").write_text("patch:\n")
+            (top / "tools").mkdir()
+            shutil.copy(RUN, top / "tools/run")
+            for name, text in self.KIT.items():
+                (kit / name).parent.mkdir(parents=True, exist_ok=True)
+                (kit / name).write_text("#!/bin/sh\n" + text)
+                (kit / name).chmod(0o755)
+            env = {**os.environ, "KIT": str(kit), "PATH": f"{kit}:{os.environ['PATH']}"}
+            pipes = {"stdin": subprocess.PIPE, "stdout": subprocess.PIPE, "stderr": subprocess.PIPE}
+            users = [subprocess.Popen([top / "tools/run", "patch"], env=env, **pipes) for _ in range(10)]
+            told = [user.communicate(b"all of it") for user in users]
+            self.assertEqual([user.returncode for user in users], [0] * 10, told)
+            self.assertEqual([output for output, _ in told], [b"all of it"] * 10)
+            self.assertEqual((kit / "log").read_text(), "built\n")
+
+
+if __name__ == "__main__":
+    unittest.main()
