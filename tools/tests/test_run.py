@@ -200,8 +200,8 @@ class Words(unittest.TestCase):
             self.assertTrue(said)
 
 
-class AtOnce(unittest.TestCase):
-    """Ten users of a tree that is due for building, with a kit that builds slowly and does not bear two builds at a time."""
+class OtherTrees(unittest.TestCase):
+    """A tree with one program, and a kit that builds slowly and does not bear two builds at a time."""
 
     KIT = {
         "rt": 'case $1 in doc) echo "$KIT/docs/START-HERE.md" ;; check) mkdir "$KIT/busy" || exit 1; echo built >> "$KIT/log"; sleep 0.5\n'
@@ -209,25 +209,52 @@ class AtOnce(unittest.TestCase):
         "toolchain/lib/ld-linux-x86-64.so.2": 'shift 2; exec "$@"\n',
     }
 
-    def test_ten(self):
-        with tempfile.TemporaryDirectory() as room:
-            top, kit = Path(room, "tree"), Path(room, "kit")
-            (top / "crates/patch/src").mkdir(parents=True)
-            (top / "crates/patch/src/main.rt").write_text("")
-            (top / "crates.txt").write_text("patch:\n")
-            (top / "tools").mkdir()
-            shutil.copy(RUN, top / "tools/run")
-            for name, text in self.KIT.items():
-                (kit / name).parent.mkdir(parents=True, exist_ok=True)
-                (kit / name).write_text("#!/bin/sh\n" + text)
-                (kit / name).chmod(0o755)
-            env = {**os.environ, "KIT": str(kit), "PATH": f"{kit}:{os.environ['PATH']}"}
-            pipes = {"stdin": subprocess.PIPE, "stdout": subprocess.PIPE, "stderr": subprocess.PIPE}
-            users = [subprocess.Popen([top / "tools/run", "patch"], env=env, **pipes) for _ in range(10)]
+    def setUp(self):
+        room = tempfile.TemporaryDirectory()
+        self.addCleanup(room.cleanup)
+        self.top, self.kit = Path(room.name, "tree"), Path(room.name, "kit")
+        (self.top / "crates/patch/src").mkdir(parents=True)
+        (self.top / "crates/patch/src/main.rt").write_text("")
+        (self.top / "crates.txt").write_text("patch:\n")
+        (self.top / "tools").mkdir()
+        shutil.copy(RUN, self.top / "tools/run")
+        for name, text in self.KIT.items():
+            self.write(self.kit / name, text)
+
+    def write(self, path, text):
+        path.parent.mkdir(parents=True, exist_ok=True)
+        path.write_text("#!/bin/sh\n" + text)
+        path.chmod(0o755)
+
+    def start(self, path):
+        """A user; what is given comes out again, by the program `cat`."""
+        pipes = {"stdin": subprocess.PIPE, "stdout": subprocess.PIPE, "stderr": subprocess.PIPE}
+        env = {**os.environ, "KIT": str(self.kit), "PATH": path}
+        return subprocess.Popen([self.top / "tools/run", "patch"], env=env, **pipes)
+
+    def test_ten_at_once(self):
+        """All find the program missing; one builds it, and it is built again only when a crate is newer."""
+        for builds in (1, 2):
+            users = [self.start(f"{self.kit}:{os.environ['PATH']}") for _ in range(10)]
             told = [user.communicate(b"all of it") for user in users]
             self.assertEqual([user.returncode for user in users], [0] * 10, told)
             self.assertEqual([output for output, _ in told], [b"all of it"] * 10)
-            self.assertEqual((kit / "log").read_text(), "built\n")
+            self.assertEqual((self.kit / "log").read_text(), "built\n" * builds)
+            os.utime(self.top / "target/bin/patch", (1, 1))
+
+    def test_without_the_kit(self):
+        """On the program that is there, or refused."""
+        tools = self.kit.parent / "tools"
+        tools.mkdir()
+        for name in ("bash", "env", "sh", "dirname", "awk", "cat"):
+            (tools / name).symlink_to(shutil.which(name))
+        user = self.start(str(tools))
+        self.assertIn(b"no kit here", user.communicate()[1])
+        self.assertEqual(user.returncode, 1)
+        self.write(self.top / "target/bin/patch", "cat\n")
+        user = self.start(str(tools))
+        self.assertEqual(user.communicate(b"all of it"), (b"all of it", b""))
+        self.assertEqual(user.returncode, 0)
 
 
 if __name__ == "__main__":
