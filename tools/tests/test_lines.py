@@ -107,6 +107,20 @@ class Worked(unittest.TestCase):
         self.assertEqual(code.derive(Setting(929, 64, 2, 1, 38)).l, 25)
         self.assertEqual(code.derive(Setting(929, 64, 32, 4, 16)).R, 56448)
 
+    def test_accepted_taus(self):
+        """They run from the smallest to the largest without a gap, for every n, k and s."""
+        for n in range(2, 65):
+            for k in range(2, n + 1):
+                for s in range(1, 5):
+                    taus = code.accepted_taus(Setting(929, n, k, s, 0))
+                    self.assertEqual(taus, list(range(taus[0], taus[-1] + 1)) if taus else [])
+        self.assertEqual(code.accepted_taus(Setting(929, 64, 2, 1, 0)), list(range(39, 54)))
+        self.assertEqual(code.accepted_taus(Setting(929, 64, 2, 4, 0)), [])
+
+    def test_a_tau_without_any_accepted(self):
+        data = read(b"setting p 929 n 64 k 2 s 4 tau 56\n")
+        self.assertIn("refused 3: U ≤ C: τ is too large; no τ is accepted with this n, k and s (", lines.show(ask("1 1 3\n", data)))
+
     def test_ranges_of_document_01(self):
         inside = [(7, 2, 2, 1, 0), (7, 64, 64, 4, 63), (7, 7, 7, 1, 6)]
         self.assertEqual([causes.outside(Setting(*x)) for x in inside], [""] * 3)
