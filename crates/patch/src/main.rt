@@ -1,4 +1,4 @@
-// The program for patch files: it reads the records from standard input, and prints the lines of each. A call that fails stops it, and is named on standard error.
+// The program for patch files: it reads the records from standard input, and prints the lines of each. A read or write that fails stops it and is told.
 ghost use Prim.Native.Nat.{_≤_};
 ghost use lib.Dec.{T};
 ghost use lib.ListN.{length};
