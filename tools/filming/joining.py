@@ -2,31 +2,35 @@
 import os
 from collections import deque
 
-from filming.parts import FilmError, load, rows
-from looking.answers import ProgramError, lines_of, must_end, whole
-from looking.streams import write_all
+from filming.parts import FilmError, load, read_table
+from looking.answers import Held, ProgramError, must_end, whole
+from looking.streams import read_lines, write_all
 
 CHUNK = 1 << 16  # characters that are written at once
+TRIED = 20  # lists of a part that are held against their words: enough to notice the output of another part
+
+
+def must_agree(held, place, word, candidates):
+    """Candidates have the agreement that their word asks for."""
+    for found in held.candidates(place, word, candidates):
+        if found.count < held.setting.needed:
+            raise ProgramError(f"a candidate of record {place} does not fit its word; is this another part's output?")
 
 
 def numbered(part, lines):
-    """The lines of the part's own records, each record's in one text and numbered through. A ProgramError where a line is missing, cut or another's."""
+    """The lines of the part's own records, each record's in one text and numbered through. A ProgramError where a line is missing, cut or cannot be this part's."""
     lines = whole(lines)
-    k = 0
+    held, tried = Held(), 0
     number = part.first - len(part.repeated)
     for place, record in enumerate(part.all(), 1):
-        _, (own, *candidates) = lines_of(place, record, k, lines)
-        if record.kind == 1:
-            k = record.numbers[2]
+        _, (own, *candidates) = held.lines(place, record, lines)
+        if candidates and tried < TRIED:
+            must_agree(held, place, record.numbers, candidates)
+            tried += 1
         if number >= part.first:
             yield "\n".join([f"{number}{own[own.index(' ') :]}", *candidates, ""])
         number += 1
     must_end(lines)
-
-
-def opened(path):
-    """An output as lines; what is not ASCII can be no line of one."""
-    return open(path, encoding="ascii", errors="replace", newline="\n")
 
 
 def pour(texts):
@@ -43,19 +47,18 @@ def pour(texts):
 
 def texts(folder, row):
     """The texts of one part, read and checked as they are taken; a FilmError names the file that is not as it must be."""
-    path = os.path.join(folder, row[0] + ".out")
+    path = os.path.join(folder, row.name + ".out")
     try:
-        with opened(path) as lines:
-            yield from numbered(load(folder, row), lines)
+        yield from numbered(load(folder, row), read_lines(path))
     except FileNotFoundError as error:
         raise FilmError(f"{error.filename} is missing")
     except ProgramError as error:
         raise FilmError(f"{path}: {error}")
 
 
-def faults(folder):
+def faults(folder, rows):
     """What is wrong, a line for each part, so that all of these can be run again before the next try."""
-    for row in rows(folder):
+    for row in rows:
         try:
             deque(texts(folder, row), maxlen=0)
         except FilmError as error:
@@ -64,8 +67,9 @@ def faults(folder):
 
 def join(folder):
     """Writes the film's output once every part is seen to be whole."""
-    found = list(faults(folder))
+    rows = read_table(folder)
+    found = list(faults(folder, rows))
     if found:
         raise FilmError("\n".join(found))
-    for row in rows(folder):
+    for row in rows:
         pour(texts(folder, row))

@@ -2,9 +2,10 @@
 import os
 import re
 from typing import List, NamedTuple
+from zlib import crc32
 
-from looking.records import MOST_BYTES, Record, stream
-from looking.streams import read_blocks
+from looking.records import MOST_BYTES, Record, split, stream
+from looking.streams import read_file, write_file
 
 TABLE = "parts.txt"
 
@@ -28,8 +29,21 @@ class Part(NamedTuple):
         return b"".join(record.data[:MOST_BYTES] for record in self.all())
 
 
+class Row(NamedTuple):
+    """What the table says of a part: its name, the number of its first record, how many it has, how many are repeated before them, and a sum over its bytes."""
+
+    name: str
+    first: int
+    records: int
+    repeated: int
+    sum: int
+
+    def line(self):
+        return f"{self.name} {self.first} {self.records} {self.repeated} {self.sum:08x}\n"
+
+
 def repeated_after(repeated, record):
-    """The last setting record and the last points record since, also refused ones: all that the next records' answers depend on (the lemma `parted`, crates/rules/proofs/Film.antt)."""
+    """The last setting record and the last points record since, also refused ones: all that the next records' answers depend on (the lemma `film`, crates/rules/proofs/Film.antt)."""
     if record.kind == 1:
         return [record]
     if record.kind == 2:
@@ -51,48 +65,52 @@ def cut(records, limit, weight=lambda record: 1):
         yield part
 
 
-def split(blocks, folder, count):
-    """Writes the parts, `count` records to each, and last the table by which they are joined; says how many parts and records there are."""
+def name_of(index):
+    return f"{index:06}"
+
+
+def table_of(rows):
+    """The text of the table, whose last line tells whether it is whole."""
+    return "".join([*(row.line() for row in rows), f"end {len(rows)} {sum(row.records for row in rows)}\n"])
+
+
+def split_film(blocks, folder, count):
+    """Writes the parts, `count` records to each, and last the table by which they are joined; gives its rows."""
     os.makedirs(folder, exist_ok=True)
     if os.listdir(folder):
         raise FilmError(f"{folder} is not empty")
-    parts = records = 0
-    unfinished = os.path.join(folder, TABLE + ".new")
-    with open(unfinished, "x") as table:
-        for part in cut(stream(blocks), count):
-            parts, records = parts + 1, records + len(part.records)
-            name = f"{parts:06}"
-            with open(os.path.join(folder, name + ".patch"), "xb") as file:
-                file.write(part.data())
-            table.write(f"{name} {part.first} {len(part.records)} {len(part.repeated)}\n")
-        table.write(f"end {parts} {records}\n")
-    os.rename(unfinished, os.path.join(folder, TABLE))
-    return parts, records
+    rows = []
+    for index, part in enumerate(cut(stream(blocks), count), 1):
+        row = Row(name_of(index), part.first, len(part.records), len(part.repeated), crc32(part.data()))
+        write_file(os.path.join(folder, row.name + ".patch"), part.data(), os.O_EXCL)
+        rows.append(row)
+    table = os.path.join(folder, TABLE)
+    write_file(table + ".new", table_of(rows).encode(), os.O_EXCL)
+    os.rename(table + ".new", table)
+    return rows
 
 
-def rows(folder):
-    """The rows of the table: a part's name, the number of its first record, how many it has, and how many are repeated before them."""
+def read_table(folder):
+    """The rows of the table, which must follow each other without a gap."""
     name = os.path.join(folder, TABLE)
     if not os.path.exists(name):
         raise FilmError(f"{folder} has no {TABLE}, so it was not split, or not to the end")
-    with open(name) as table:
-        for line in table:
-            row = re.fullmatch(r"([0-9]+) ([0-9]+) ([0-9]+) ([0-2])\n", line)
-            if not row:
-                break
-            yield (row[1], *map(int, row.groups()[1:]))
-        else:
-            line = ""
-    if not re.fullmatch(r"end [0-9]+ [0-9]+\n", line):
+    text = read_file(name).decode("ascii", "replace")
+    rows, first = [], 1
+    for records, repeated, sum_ in re.findall(r"^[0-9]+ [0-9]+ ([0-9]+) ([0-2]) ([0-9a-f]{8})$", text, re.M):
+        row = Row(name_of(len(rows) + 1), first, int(records), int(repeated), int(sum_, 16))
+        rows.append(row)
+        first += row.records
+    if text != table_of(rows):
         raise FilmError(f"{name} is cut or changed")
+    return rows
 
 
 def load(folder, row):
     """A part as its file has it."""
-    name, first, own, repeated = row
-    path = os.path.join(folder, name + ".patch")
-    with open(path, "rb") as file:
-        records = list(stream(read_blocks(file.fileno(), path)))
-    if len(records) != repeated + own:
-        raise FilmError(f"{path} has {len(records)} records, not {repeated + own}")
-    return Part(first, records[:repeated], records[repeated:])
+    path = os.path.join(folder, row.name + ".patch")
+    data = read_file(path)
+    records = split(data)
+    if crc32(data) != row.sum or len(records) != row.repeated + row.records:
+        raise FilmError(f"{path} is not as it was written")
+    return Part(row.first, records[: row.repeated], records[row.repeated :])

@@ -5,22 +5,23 @@ import tempfile
 from collections import deque
 from concurrent.futures import ThreadPoolExecutor
 
-from filming.joining import numbered, opened, pour
+from filming.joining import numbered, pour
 from filming.parts import cut
 from looking.answers import ProgramError
 from looking.records import stream
+from looking.streams import read_lines, write_file
 
-LEAST, MOST = 1 << 12, 1 << 19  # bytes of a part: long enough that starting the program does not count, short enough to share out
-AHEAD = 4  # parts for each job that may be on their way
+LEAST, MOST = 1 << 15, 1 << 19  # bytes of a part: starting the program should not count, and every job should have its share
+AHEAD = 4  # parts for each job that are on their way
 
 
 def part_size(total, jobs):
-    """Bytes of a part: eight for each job where the film's length is known, within bounds."""
-    return max(LEAST, min(MOST, (total or MOST) // (8 * jobs)))
+    """Bytes of a part: eight parts for each job, within bounds; where the film's length is not known, something between."""
+    return max(LEAST, min(MOST, total // (8 * jobs))) if total else 1 << 17
 
 
 class Runner:
-    """Runs the program on parts, as many at a time as there are jobs; its files are gone when it ends."""
+    """Runs the program on parts, as many at a time as there are jobs; programs and files are gone when it ends."""
 
     def __init__(self, program, jobs):
         self.program = program
@@ -44,11 +45,7 @@ class Runner:
 
     def answer(self, part, path):
         """The path of the part's output, and what the program said on standard error."""
-        try:
-            with open(path + ".patch", "wb") as file:
-                file.write(part.data())
-        except OSError as error:
-            raise ProgramError(f"{path}.patch: {error.strerror}")
+        write_file(path + ".patch", part.data())
         with open(path + ".patch", "rb") as source, open(path + ".out", "wb") as output:
             process = subprocess.Popen(self.program, stdin=source, stdout=output, stderr=subprocess.PIPE)
             self.running.add(process)
@@ -62,17 +59,24 @@ class Runner:
         return path + ".out", said
 
 
-def finish(part, answer):
+def write_part(part, answer):
     """Writes the lines of a part, once the parts before it are written."""
     said = ""
     try:
         path, said = answer.result()
-        with opened(path) as lines:
-            pour(numbered(part, lines))
+        pour(numbered(part, read_lines(path)))
     except ProgramError as error:
         last = part.first + len(part.records) - 1
         raise ProgramError(f"records {part.first} to {last}: {error}" + (f" ({said})" if said else ""))
     os.unlink(path)
+
+
+def settle(started, most, bar):
+    """Writes parts in order while they are done, and waits for those that are more than `most`."""
+    while len(started) > most or (started and started[0][1].done()):
+        part, answer = started.popleft()
+        write_part(part, answer)
+        bar.add(len(part.records), sum(len(record.data) for record in part.records))
 
 
 def run(blocks, total, jobs, program, bar):
@@ -81,14 +85,5 @@ def run(blocks, total, jobs, program, bar):
         started = deque()
         for part in cut(stream(blocks), part_size(total, jobs), lambda record: len(record.data)):
             started.append((part, runner.start(part)))
-            while len(started) > AHEAD * jobs or (started and started[0][1].done()):
-                advance(started, bar)
-        while started:
-            advance(started, bar)
-
-
-def advance(started, bar):
-    """The first part that is on its way."""
-    part, answer = started.popleft()
-    finish(part, answer)
-    bar.add(len(part.records), sum(len(record.data) for record in part.records))
+            settle(started, AHEAD * jobs - 1, bar)
+        settle(started, 0, bar)

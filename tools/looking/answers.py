@@ -128,23 +128,30 @@ class Held:
         self.setting = None
         self.points = None
 
-    def answer(self, number, record, lines):
-        """A record's answer, from the front of the lines, and what is held after it."""
+    def lines(self, number, record, lines):
+        """The refusal number and the lines of the next record, after which this holds what the program holds."""
         refusal, own = lines_of(number, record, self.setting.k if self.setting else 0, lines)
         if record.kind in (1, 2):
             self.points = None
         if record.kind == 1:
-            given = Setting(*record.numbers)
-            self.setting = None if refusal else given
-            return Answer(number, record, refusal, tuple(own), given, None)
+            self.setting = None if refusal else Setting(*record.numbers)
         if record.kind == 2 and refusal == 0:
             self.points = record.numbers
-        found = ()
-        if record.kind == 3 and refusal == 0:
-            if not self.fits(record.numbers):
-                raise ProgramError(f"the program accepted record {number}, a word that does not fit what it holds")
-            found = tuple(candidate(x, self.setting, self.points, record.numbers) for x in own[1:])
-        return Answer(number, record, refusal, tuple(own), self.setting, self.points, found)
+        return refusal, own
+
+    def candidates(self, number, word, lines):
+        """The candidates of an accepted word, from their lines."""
+        if not self.fits(word):
+            raise ProgramError(f"the program accepted record {number}, a word that does not fit what it holds")
+        return tuple(candidate(line, self.setting, self.points, word) for line in lines)
+
+    def answer(self, number, record, lines):
+        """The next record's answer."""
+        refusal, own = self.lines(number, record, lines)
+        listed = record.kind == 3 and refusal == 0
+        found = self.candidates(number, record.numbers, own[1:]) if listed else ()
+        setting = Setting(*record.numbers) if record.kind == 1 else self.setting
+        return Answer(number, record, refusal, tuple(own), setting, self.points, found)
 
     def fits(self, word):
         """Whether a word's agreement with a message can be worked out at all."""

@@ -58,11 +58,14 @@ def detail_of_marks(refusal, marks, setting):
 
 
 def limit(refusal, setting):
-    """Where τ is refused, which one would not be."""
+    """Where τ is refused, which one would not be. A larger τ needs less work."""
     taus = accepted_taus(setting)
+    fitting = [tau for tau in taus if derive(setting._replace(tau=tau)).R <= ROOM]
     if not taus:
         return "; no τ is accepted with this n, k and s"
-    return f"; the largest accepted is {taus[-1]}" if refusal == 3 else f"; the smallest accepted is {taus[0]}"
+    if not fitting:
+        return f"; the largest accepted is {taus[-1]}, which needs more work than the program has (8)"
+    return f"; the largest accepted is {fitting[-1]}" if refusal == 3 else f"; the smallest accepted is {fitting[0]}"
 
 
 def cause(refusal, record, setting):

@@ -1,7 +1,14 @@
 # Document 01's code and setting, as far as a reader needs them to follow an answer.
 from collections import namedtuple
 
-Setting = namedtuple("Setting", "p n k s tau")
+
+class Setting(namedtuple("Setting", "p n k s tau")):
+    @property
+    def needed(self):
+        """The places in which a listed message agrees with the word at least."""
+        return self.n - self.tau
+
+
 Derived = namedtuple("Derived", "W l C U R")
 
 

@@ -75,8 +75,8 @@ class Reader:
         try:
             text = raw.decode("utf-8")
         except UnicodeDecodeError:
-            text = "\0"
-        if "\0" in text:
+            text = None
+        if text is None or "\0" in text:
             self.fail("this is no text; is it a patch file? `look text` reads those")
         fields = text.split("#", 1)[0].split()
         if not fields:

@@ -19,7 +19,7 @@ def agreement_words(candidate):
 
 def list_words(answer):
     """How long the list of an accepted word is."""
-    n, needed = answer.setting.n, answer.setting.n - answer.setting.tau
+    n, needed = answer.setting.n, answer.setting.needed
     many = len(answer.candidates)
     if many == 0:
         return f"no message agrees in at least {needed} of {n} places"
@@ -39,7 +39,7 @@ def answer_words(answer):
 
 def candidate_words(answer, candidate):
     """Agreement, with a warning where a program lists a message that has too little of it."""
-    needed = answer.setting.n - answer.setting.tau
+    needed = answer.setting.needed
     short = "" if candidate.count >= needed else f"; too few, {needed} are needed"
     return agreement_words(candidate) + short
 

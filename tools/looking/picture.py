@@ -150,7 +150,7 @@ def draw_candidate(sheet, parent, answer, index, places, y):
         note = f"place {place}, point {answer.points[place]}: {name} has {value}, the word {mark}"
         draw_cell(sheet, parent, column, y, value, look, note)
     if lines:
-        n, needed = answer.setting.n, answer.setting.n - answer.setting.tau
+        n, needed = answer.setting.n, answer.setting.needed
         add(parent, "text", f"{candidate.count} of {n} agree", x=sheet.right, y=y + 15, of="name")
         add(parent, "text", f"n−τ = {needed} needed", x=sheet.right, y=y + 30, of="label")
     return y + max(CELL_HEIGHT, 20 + len(lines) * LINE) + ROW_GAP

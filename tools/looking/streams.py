@@ -1,4 +1,4 @@
-# Bytes from and to a file descriptor, each one or an error that names it; one that is not ready is waited for.
+# Bytes from and to files, each one or an error that names the file; one that is not ready is waited for.
 import os
 import select
 
@@ -20,6 +20,25 @@ def read_blocks(fd, name="standard input"):
         yield block
 
 
+def read_file(name):
+    """The bytes of a file; - is standard input."""
+    if name == "-":
+        return b"".join(read_blocks(0))
+    with open(name, "rb", buffering=0) as file:
+        return b"".join(read_blocks(file.fileno(), name))
+
+
+def read_lines(name):
+    """The lines of a file with their ends; what is not ASCII becomes a sign that no output has."""
+    with open(name, "rb", buffering=0) as file:
+        rest = b""
+        for block in read_blocks(file.fileno(), name):
+            *lines, rest = (rest + block).split(b"\n")
+            yield from (line.decode("ascii", "replace") + "\n" for line in lines)
+    if rest:
+        yield rest.decode("ascii", "replace")
+
+
 def write_all(data, fd=1, name="standard output"):
     """Every byte, in order."""
     rest = memoryview(data)
@@ -32,9 +51,16 @@ def write_all(data, fd=1, name="standard output"):
             raise OSError(error.errno, error.strerror, name)
 
 
-def finish(fd=1, name="standard output"):
-    """Closes it, since some systems tell only then that what was written found no room."""
+def close(fd=1, name="standard output"):
+    """Some systems tell only here that what was written found no room."""
     try:
         os.close(fd)
     except OSError as error:
         raise OSError(error.errno, error.strerror, name)
+
+
+def write_file(name, data, more=os.O_TRUNC):
+    """A file of these bytes; with os.O_EXCL for `more` it must be new."""
+    fd = os.open(name, os.O_WRONLY | os.O_CREAT | more, 0o666)
+    write_all(data, fd, name)
+    close(fd, name)

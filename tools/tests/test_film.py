@@ -1,10 +1,14 @@
 # Films: parts that can be read by themselves, outputs that are joined or refused, and both in one; with a program that is there.
 import io
+import os
 import random
+import re
 import shutil
+import signal
 import subprocess
 import sys
 import tempfile
+import time
 import unittest
 from pathlib import Path
 from unittest import mock
@@ -115,14 +119,18 @@ class Parts(unittest.TestCase):
             self.skipTest("no parallel")
         data = made_film(40)
         film("split", "-", self.folder, 9, data=data)
-        command = " ".join(program())
-        line = f"find {self.folder} -name '*.patch' | parallel '{command} < {{}} > {{.}}.out'"
-        subprocess.run(line, shell=True, check=True, stderr=subprocess.DEVNULL)
+        (line,) = re.findall(r"^    (find parts .*parallel .*)$", (TOP / "docs/FILM.md").read_text(encoding="utf-8"), re.M)
+        run = self.folder.parent / "tools" / "run"
+        run.parent.mkdir()
+        run.write_text(f'#!/bin/sh\nshift\nexec {" ".join(program())} < "$1"\n')
+        run.chmod(0o755)
+        subprocess.run(line, shell=True, check=True, stderr=subprocess.DEVNULL, cwd=self.folder.parent)
         self.assertEqual(film("join", self.folder), (0, printed(data), ""))
 
     def refused(self, change, words):
         """The change makes join refuse with these words, before it writes anything."""
-        self.split_and_run(sample("two-readings").read_bytes() + join(3, (0, 1, 2, 3, 4, 5, 6)) * 3, 2)
+        words_after = join(3, (0, 1, 2, 3, 4, 5, 6)), join(3, (2, 2, 2, 2, 2, 2, 2)) * 2
+        self.split_and_run(sample("two-readings").read_bytes() + b"".join(words_after), 2)
         change()
         code, output, said = film("join", self.folder)
         shutil.rmtree(self.folder)
@@ -151,9 +159,14 @@ class Parts(unittest.TestCase):
             (second, lambda out: b"", "no line for record 1"),
             (second, lambda out: out.replace(b"2 2 0", b"2 3 0"), "'2 3 0' does not fit record 2 of kind 2"),
             (second, lambda out: out.replace(b"0", b"\xff"), "does not fit record 1"),
-            ("000002.patch", lambda part: part[:-18], "000002.patch has 3 records, not 4"),
+            (second, lambda out: out.replace(b"+ 0 1\n4", b"+ 1 1\n4"), "a candidate of record 3 does not fit its word"),
+            ("000002.patch", lambda part: part[:-18], "000002.patch is not as it was written"),
+            ("000002.patch", lambda part: part[:-1], "000002.patch is not as it was written"),
             ("parts.txt", lambda table: table[: table.index(b"end")], "is cut or changed"),
             ("parts.txt", lambda table: table[:-1], "is cut or changed"),
+            ("parts.txt", lambda table: table[table.index(b"\n") + 1 :], "is cut or changed"),
+            ("parts.txt", lambda table: re.sub(b"000002.*\n", b"", table), "is cut or changed"),
+            ("parts.txt", lambda table: re.sub(b"000003.*\n", b"", table), "is cut or changed"),
         ]:
             with self.subTest(words):
                 self.refused(self.edit(name, change), words)
@@ -162,6 +175,12 @@ class Parts(unittest.TestCase):
         for name in ("000002.out", "000002.patch"):
             self.refused(lambda: (self.folder / name).unlink(), f"{name} is missing")
         self.refused((lambda: (self.folder / "parts.txt").unlink()), "has no parts.txt")
+
+    def test_the_output_of_another_part(self):
+        def change():
+            shutil.copy(self.folder / "000002.out", self.folder / "000003.out")
+
+        self.refused(change, "000003.out: a candidate of record 3 does not fit its word; is this another part's output?")
 
     def test_every_fault_is_named(self):
         def change():
@@ -177,7 +196,7 @@ class Run(unittest.TestCase):
         return film("run", "--program", " ".join(program()), "-", jobs, *args, data=data)
 
     def test_same_bytes(self):
-        data = made_film(3000)
+        data = made_film(9000)
         for jobs in (1, 2, 5):
             self.assertEqual(self.run_film(data, jobs), (0, printed(data), ""))
 
@@ -188,9 +207,9 @@ class Run(unittest.TestCase):
         self.assertEqual(b"".join(call.args[0] for call in poured.call_args_list), printed(data))
 
     def test_parts_are_shared_out(self):
-        self.assertEqual(running.part_size(None, 2), 1 << 19 >> 4)
+        self.assertEqual(running.part_size(None, 2), 1 << 17)
         self.assertEqual(running.part_size(1 << 30, 2), 1 << 19)
-        self.assertEqual(running.part_size(1000, 2), 1 << 12)
+        self.assertEqual(running.part_size(1000, 2), 1 << 15)
         self.assertEqual(running.part_size(1 << 20, 2), 1 << 16)
 
     def test_a_program_that_fails_is_told(self):
@@ -206,22 +225,48 @@ class Run(unittest.TestCase):
             self.assertNotIn("Traceback", said)
 
     def test_the_output_before_a_fault_is_a_front_part(self):
-        data = made_film(3000)
+        """A program that loses the last line of a part with a certain record."""
+        words = join(3, range(7)) * 8000
+        data = b"".join(SEVEN) + words + join(9, [int.from_bytes(b"FA", "little")]) + words
         whole = printed(data)
         with tempfile.TemporaryDirectory() as room:
             script = Path(room, "fails-late")
-            script.write_text(f'#!/bin/sh\n{" ".join(program())} > "$0.$$"\nhead -c 2000 "$0.$$"\n')
+            keep = 'tee "$0.$$" | {} > "$0.$$.out"; if grep -aq FA "$0.$$"; then sed \'$d\' "$0.$$.out"; else cat "$0.$$.out"; fi'
+            script.write_text("#!/bin/sh\n" + keep.format(" ".join(program())))
             script.chmod(0o755)
             code, output, said = film("run", "--program", script, "-", 2, data=data)
         self.assertEqual(code, 1)
-        self.assertIn("records 1 to", said)
+        self.assertRegex(said, "film: records 7[0-9]* to [0-9]*: the list of record [0-9]* has 0 of 1 candidates")
         self.assertTrue(whole.startswith(output))
+        self.assertTrue(len(whole) / 3 < len(output) < len(whole))
 
     def test_files(self):
         for name, words in [("/nowhere/film.patch", "No such file"), (str(TOP), "Is a directory")]:
             code, output, said = film("run", "--program", "true", name, 2)
             self.assertEqual((code, output), (1, b""))
             self.assertIn(f"{name}: {words}", said)
+        command = ["sh", "-c", '"$0" run --program true - 2 <&-', str(TOP / "tools/film")]
+        done = subprocess.run(command, stdout=subprocess.PIPE, stderr=subprocess.PIPE)
+        self.assertEqual((done.returncode, done.stderr), (1, b"film: standard input: Bad file descriptor\n"))
+        self.assertEqual(film("run", "--program", " ", "-", 2)[0], 2)
+
+    def test_signals(self):
+        """Programs and files of a run are gone when a signal ended it."""
+        with tempfile.TemporaryDirectory() as room:
+            script = Path(room, "waits")
+            script.write_text('#!/bin/sh\n[ -s /dev/stdin ] || exit 0\necho $$ >> "$0.pids"\nexec sleep 60\n')
+            script.chmod(0o755)
+            command = [sys.executable, str(TOP / "tools/film"), "run", "--program", str(script), str(sample("clean")), "2"]
+            for number in (signal.SIGHUP, signal.SIGINT, signal.SIGTERM):
+                Path(f"{script}.pids").unlink(missing_ok=True)
+                process = subprocess.Popen(command, stdout=subprocess.PIPE, env={**os.environ, "TMPDIR": room})
+                while not Path(f"{script}.pids").exists() or not Path(f"{script}.pids").read_text().endswith("\n"):
+                    time.sleep(0.05)
+                process.send_signal(number)
+                self.assertEqual(process.communicate()[0], b"")
+                self.assertEqual(process.returncode, 128 + number)
+                self.assertEqual(list(Path(room).glob("film-*")), [])
+                self.assertFalse(Path("/proc", Path(f"{script}.pids").read_text().strip()).exists())
 
     def test_full_device(self):
         command = [sys.executable, str(TOP / "tools/film"), "run", "--program", " ".join(program()), str(sample("clean")), "2"]

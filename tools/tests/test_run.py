@@ -158,7 +158,8 @@ class Faults(unittest.TestCase):
             self.assertEqual((done.returncode, done.stdout), (1, b""))
             self.assertIn(words, done.stderr.decode())
         command = ["sh", "-c", '"$0" patch "$1" 2>&-', RUN, str(sample("clean"))]
-        self.assertEqual(subprocess.run(command, stdout=subprocess.PIPE).stdout.decode(), PRINTED["clean"])
+        done = subprocess.run(command, stdout=subprocess.PIPE)
+        self.assertEqual((done.returncode, done.stdout.decode()), (0, PRINTED["clean"]))
 
     def test_reader_that_goes(self):
         read, write = os.pipe()
@@ -169,6 +170,19 @@ class Faults(unittest.TestCase):
             os.close(read)
             process.communicate()
         self.assertNotEqual(process.returncode, 0)
+
+    def test_a_signal_ends_the_program_too(self):
+        """It waits for its input; when it is gone the pipe has no reader."""
+        for number in (signal.SIGHUP, signal.SIGINT, signal.SIGTERM):
+            process = subprocess.Popen(patch_program(), stdin=subprocess.PIPE, stdout=subprocess.PIPE, stderr=subprocess.PIPE)
+            process.stdin.write(SEVEN[0])
+            process.stdin.flush()
+            self.assertEqual(process.stdout.readline(), b"1 1 0\n")
+            process.send_signal(number)
+            self.assertEqual(process.wait(), 128 + number)
+            with self.assertRaises(BrokenPipeError):
+                os.write(process.stdin.fileno(), REEL)
+            process.communicate()
 
     def test_other_programs(self):
         with open("/dev/full", "wb") as full:
@@ -242,11 +256,20 @@ class OtherTrees(unittest.TestCase):
             self.assertEqual((self.kit / "log").read_text(), "built\n" * builds)
             os.utime(self.top / "target/bin/patch", (1, 1))
 
+    def test_a_change_of_the_file_does_not_reach_a_run(self):
+        user = self.start(f"{self.kit}:{os.environ['PATH']}")
+        while not (self.kit / "log").exists():
+            time.sleep(0.05)
+        time.sleep(1)
+        (self.top / "tools/run").write_text("nonsense\n" * 1000)
+        self.assertEqual(user.communicate(b"all of it")[0], b"all of it")
+        self.assertEqual(user.returncode, 0)
+
     def test_without_the_kit(self):
         """On the program that is there, or refused."""
         tools = self.kit.parent / "tools"
         tools.mkdir()
-        for name in ("bash", "env", "sh", "dirname", "awk", "cat"):
+        for name in ("awk", "bash", "cat", "dirname", "env", "sh"):
             (tools / name).symlink_to(shutil.which(name))
         user = self.start(str(tools))
         self.assertIn(b"no kit here", user.communicate()[1])

@@ -8,10 +8,7 @@ fn joined(low: u8, high: u8) -> u16 {
 // The next number; where the input has ended, 0.
 fn next() -> u16 {
     let mut bytes = [0u8; 2];
-    let got = streams::fill(&mut bytes);
-    if got.failed {
-        os::fail(b"calls: cannot read standard input");
-    }
+    streams::fill(&mut bytes, b"calls: cannot read standard input");
     joined(bytes[0], bytes[1])
 }
 

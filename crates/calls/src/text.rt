@@ -1,16 +1,16 @@
 // Numbers on standard output, each with a space before it.
 
-// A write that fails is named on standard error.
-fn told(written: bool) {
-    if !written {
-        os::fail(b"calls: cannot write to standard output");
-    }
+// Text as it is.
+fn put_text(text: &[u8]) {
+    streams::put(text, b"calls: cannot write to standard output");
 }
 
 // A number.
 pub fn put(x: usize) {
-    told(io::write_all(1, b" "));
-    told(io::print_decimal(1, x as u64));
+    let mut text = [0u8; 20];
+    let k = io::decimal(x as u64, &mut text);
+    put_text(b" ");
+    put_text(&text[..k]);
 }
 
 // The same for a number of 16 bits.
@@ -25,5 +25,5 @@ pub fn put_run(run: &[u16]) {
         put_symbol(run[i]);
         i += 1;
     }
-    told(io::write_all(1, b"\n"));
+    put_text(b"\n");
 }

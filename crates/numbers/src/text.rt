@@ -1,16 +1,12 @@
 // Numbers on standard output.
 
-// A write that fails is named on standard error.
-fn told(written: bool) {
-    if !written {
-        os::fail(b"numbers: cannot write to standard output");
-    }
-}
-
 // A number, and the byte that parts it from what follows.
 pub fn put(x: usize, after: u8) {
-    told(io::print_decimal(1, x as u64));
-    told(io::write_all(1, &[after]));
+    let mut text = [0u8; 20];
+    let k = io::decimal(x as u64, &mut text);
+    let words = b"numbers: cannot write to standard output";
+    streams::put(&text[..k], words);
+    streams::put(&[after], words);
 }
 
 // The same for a number of 16 bits.

@@ -9,11 +9,12 @@ fn read_record(all: &mut [u8]) -> streams::Got
     requires { ⌜ 132 ≤ length (now all) ⌝ }
     ensures { λ r. ⌜ r .count ≤ 132 ⌝ }
 {
-    let first = streams::fill(&mut all[0..2]);
+    let words = b"patch: cannot read standard input";
+    let first = streams::fill(&mut all[0..2], words);
     let begun = first.count;
     let want = parsing::want(&all[..begun]);
     let end = 2 + want;
-    let rest = streams::fill(&mut all[2..end]);
+    let rest = streams::fill(&mut all[2..end], words);
     streams::Got {
         count: begun + rest.count,
         failed: first.failed || rest.failed,
@@ -28,8 +29,7 @@ fn take(held: records::Held, number: u64, bytes: &[u8]) -> records::Done
     let mut out = [0u8; 16384];
     let mut done = records::step(held, number, bytes, &mut out);
     let wrote = done.wrote;
-    if !streams::put(&out[..wrote]) {
-        os::fail(b"patch: cannot write to standard output");
+    if !streams::put(&out[..wrote], b"patch: cannot write to standard output") {
         done.more = false;
     }
     done
@@ -43,7 +43,6 @@ fn turn(held: records::Held, number: u64) -> records::Done
     let mut bytes = [0u8; 132];
     let got = read_record(&mut bytes);
     if got.failed {
-        os::fail(b"patch: cannot read standard input");
         return records::Done {
             held,
             wrote: 0,
@@ -70,7 +69,5 @@ fn read_all() {
 
 fn main() {
     read_all();
-    if !streams::finish() {
-        os::fail(b"patch: cannot finish standard output");
-    }
+    streams::finish(b"patch: cannot close standard output");
 }

@@ -1,4 +1,4 @@
-// Standard input and output with nothing lost: each byte is moved, or the caller learns that a call failed.
+// Standard input and output with nothing lost: each byte is moved, or a call failed; then the caller learns it, and standard error gets the caller's words and the system's reason.
 ghost use Prim.Native.Nat.{_≤_};
 ghost use lib.ListN.{length};
 use libc::EAGAIN;
@@ -6,7 +6,7 @@ use libc::EINTR;
 use libc::STDIN_FILENO;
 use libc::STDOUT_FILENO;
 
-// What came of reading: how many bytes, and whether there are no more because a read failed. Otherwise fewer than asked for mean that the input ended.
+// What came of reading: how many bytes, and whether there are no more because a read failed. Otherwise fewer than there are places mean that the input ended.
 pub struct Got {
     pub count: usize,
     pub failed: bool,
@@ -60,7 +60,7 @@ fn read_some(part: &mut [u8]) -> Got
 }
 
 // Reads until all places hold a byte, the input ends or a read fails.
-pub fn fill(all: &mut [u8]) -> Got
+pub fn fill(all: &mut [u8], words: &[u8]) -> Got
     ensures { λ r. ⌜ r .count ≤ length (now (all .entry)) ⌝ }
 {
     let end = all.len();
@@ -68,6 +68,9 @@ pub fn fill(all: &mut [u8]) -> Got
     while at < end {
         let got = read_some(&mut all[at..end]);
         if got.count == 0 {
+            if got.failed {
+                os::fail(words);
+            }
             return Got {
                 count: at,
                 failed: got.failed,
@@ -100,12 +103,13 @@ fn write_some(part: &[u8]) -> usize
 }
 
 // Writes all of it, or stops at the first write that fails: what was written is then the front of it.
-pub fn put(all: &[u8]) -> bool {
+pub fn put(all: &[u8], words: &[u8]) -> bool {
     let end = all.len();
     let mut at: usize = 0;
     while at < end {
         let count = write_some(&all[at..end]);
         if count == 0 {
+            os::fail(words);
             return false;
         }
         at += count;
@@ -114,9 +118,8 @@ pub fn put(all: &[u8]) -> bool {
 }
 
 // Closes standard output, since some systems tell only then that what was written found no room.
-pub fn finish() -> bool {
-    if libc::close(STDOUT_FILENO) == 0 {
-        return true;
+pub fn finish(words: &[u8]) {
+    if libc::close(STDOUT_FILENO) != 0 && os::errno() != EINTR {
+        os::fail(words);
     }
-    os::errno() == EINTR
 }

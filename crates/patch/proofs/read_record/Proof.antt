@@ -3,8 +3,8 @@ use mathlib.Core.Path.{sym}
 use mathlib.Core.List.{_++_}
 use lib.ListN.{length-append}
 use lib.Seq.{length-take-le}
-use borrow.Rule.Slice.PartMut.{postOf}
 use native.Mathlib.Omega.{arith}
+use borrow.Rule.Slice.PartMut.{postOf}
 use borrow.Author.Needs.{needs}
 use Rattle.patch.proofs.read_record.Statement.{statement}
 use Rattle.patch.proofs.read_record.Tie as tie
@@ -26,9 +26,10 @@ slice-reshare-prefix-want c = search needs
 
 slice-aggregate-want : tie.Need-slice-aggregate-want
 slice-aggregate-want c =
-    let at-fill = c .before .before .before .fill in
-    let whole = at-fill .last .0 ++ postOf 0 2 (c .before .before .before .before .before .before .args .all .now) in
-    sym (length-take-le (at-fill .result .count) whole (simp length-append (omega arith)))
+    let at-fill = c .before .before .before in
+    let start = at-fill .before .before .before .before .before in
+    let whole = at-fill .fill .last .0 ++ postOf 0 2 (start .args .all .now) in
+    sym (length-take-le (at-fill .fill .result .count) whole (simp length-append (omega arith)))
 
 want-requires : tie.Need-want-requires
 want-requires c κs = search needs
@@ -48,8 +49,8 @@ part-fill-end-2 c = search needs
 fill-requires-2 : tie.Need-fill-requires-2
 fill-requires-2 c κs = search needs
 
-add-t22 : tie.Need-add-t22
-add-t22 c = search needs
+add-t28 : tie.Need-add-t28
+add-t28 c = search needs
 
 same-length : tie.Need-same-length
 same-length c = search needs
@@ -79,7 +80,7 @@ read-record-spec =
     part-fill-start-2
     part-fill-end-2
     fill-requires-2
-    add-t22
+    add-t28
     same-length
     returns
     same-length-2

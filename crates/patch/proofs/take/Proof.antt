@@ -19,14 +19,11 @@ slice-aggregate-put : tie.Need-slice-aggregate-put
 slice-aggregate-put c =
     let s = c .before .before .step in sym (length-take-le (s .result .wrote) (s .last .1 .1 .1 .0) (omega (arith, s .ensures .1 .within)))
 
+slice-aggregate-put-2 : tie.Need-slice-aggregate-put-2
+slice-aggregate-put-2 c = search needs
+
 put-requires : tie.Need-put-requires
 put-requires c κs = search needs
-
-slice-aggregate-fail : tie.Need-slice-aggregate-fail
-slice-aggregate-fail c = search needs
-
-fail-requires : tie.Need-fail-requires
-fail-requires c κs = search needs
 
 returns : tie.Need-returns
 returns c = search needs
@@ -42,8 +39,7 @@ take-spec =
     step-requires
     array-share-prefix-out
     slice-aggregate-put
+    slice-aggregate-put-2
     put-requires
-    slice-aggregate-fail
-    fail-requires
     returns
     returns-2)

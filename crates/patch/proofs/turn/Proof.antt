@@ -12,12 +12,6 @@ slice-aggregate-read-record c = search needs
 read-record-requires : tie.Need-read-record-requires
 read-record-requires c κs = search needs
 
-slice-aggregate-fail : tie.Need-slice-aggregate-fail
-slice-aggregate-fail c = search needs
-
-fail-requires : tie.Need-fail-requires
-fail-requires c κs = search needs
-
 returns : tie.Need-returns
 returns c = search needs
 
@@ -43,8 +37,6 @@ turn-spec =
     (tie.spec
     slice-aggregate-read-record
     read-record-requires
-    slice-aggregate-fail
-    fail-requires
     returns
     array-share-prefix-bytes
     slice-aggregate-take

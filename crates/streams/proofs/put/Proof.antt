@@ -7,10 +7,10 @@ use Rattle.streams.proofs.put.Statement.{statement}
 use Rattle.streams.proofs.put.Tie as tie
 
 abbrev Inv-loop : tie.InvT-loop
-Inv-loop all end at₀ at = (at ≤ end) × (end ≡ length all)
+Inv-loop all words end at₀ at = (at ≤ end) × (end ≡ length all)
 
 abbrev μ-loop : tie.MeasureT-loop
-μ-loop all end at₀ at = end - at
+μ-loop all words end at₀ at = end - at
 
 loop-holds : tie.Need-loop-holds Inv-loop μ-loop
 loop-holds c = search needs
@@ -26,6 +26,9 @@ part-write-some-end c = search needs
 
 write-some-requires : tie.Need-write-some-requires Inv-loop μ-loop
 write-some-requires c κs = search needs
+
+fail-requires : tie.Need-fail-requires Inv-loop μ-loop
+fail-requires c κs = search needs
 
 returns : tie.Need-returns Inv-loop μ-loop
 returns c = search needs
@@ -53,6 +56,7 @@ put-spec =
     part-write-some-start
     part-write-some-end
     write-some-requires
+    fail-requires
     returns
     add-at
     loop-less
