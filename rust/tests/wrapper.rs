@@ -128,17 +128,17 @@ fn largest() {
     for n in [0, 1, 65, usize::MAX] {
         assert_eq!(Setting::largest(929, n, 2, 1), Err(Refusal::OutOfRange));
     }
-    for (tau, s, words) in [
-        (17, 4, "refused with 3: U ≤ C: τ is too large; the largest accepted is 16"),
-        (32, 4, "refused with 2: n, k, s or τ is outside its range"),
+}
+
+#[test]
+fn refused_taus() {
+    for (n, k, s, tau, words) in [
+        (32, 8, 4, 17, "refused with 3: U ≤ C: τ is too large; the largest accepted is 16"),
+        (32, 8, 4, 32, "refused with 2: n, k, s or τ is outside its range"),
+        (64, 2, 1, 38, "refused with 4: ℓ > 24: τ is too small; the smallest accepted is 39"),
+        (64, 2, 4, 56, "refused with 3: U ≤ C: τ is too large; no τ is accepted with this n, k and s"),
     ] {
-        assert_eq!(Setting::new(929, 32, 8, s, tau).unwrap_err().to_string(), words);
-    }
-    for (tau, s, words) in [
-        (38, 1, "refused with 4: ℓ > 24: τ is too small; the smallest accepted is 39"),
-        (56, 4, "refused with 3: U ≤ C: τ is too large; no τ is accepted with this n, k and s"),
-    ] {
-        assert_eq!(Setting::new(929, 64, 2, s, tau).unwrap_err().to_string(), words);
+        assert_eq!(Setting::new(929, n, k, s, tau).unwrap_err().to_string(), words);
     }
 }
 

@@ -1,8 +1,9 @@
 # How far a run is, on a terminal.
+import shutil
 import sys
 import time
 
-WIDE = 30
+WIDE = 20
 
 
 def span(seconds):
@@ -13,11 +14,11 @@ def span(seconds):
 
 
 class Bar:
-    """A line on standard error that is written over; nothing where that is no terminal."""
+    """A line on standard error that is written over; nothing where that is no terminal, or where the output itself is shown."""
 
     def __init__(self, total):
         self.total = total
-        self.shown = sys.stderr.isatty()
+        self.shown = sys.stderr.isatty() and not sys.stdout.isatty()
         self.start = time.monotonic()
         self.records = self.bytes = 0
         self.show()
@@ -29,7 +30,7 @@ class Bar:
 
     def text(self):
         spent = time.monotonic() - self.start
-        pace = f"{self.records} records, {self.records / max(spent, 0.001):.0f} a second, {span(spent)}"
+        pace = f"{self.records} records, {self.records / max(spent, 0.001):.0f}/s, {span(spent)}"
         if not self.total:
             return pace
         part = min(self.bytes / self.total, 1)
@@ -38,7 +39,8 @@ class Bar:
 
     def show(self):
         if self.shown:
-            print(f"\r{self.text()}\x1b[K", end="", file=sys.stderr, flush=True)
+            text = self.text()[: shutil.get_terminal_size().columns - 1]
+            print(f"\r{text}\x1b[K", end="", file=sys.stderr, flush=True)
 
     def end(self):
         if self.shown:

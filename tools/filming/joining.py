@@ -52,6 +52,8 @@ def texts(folder, row):
         yield from numbered(load(folder, row), read_lines(path))
     except FileNotFoundError as error:
         raise FilmError(f"{error.filename} is missing")
+    except OSError as error:
+        raise FilmError(f"{error.filename}: {error.strerror}")
     except ProgramError as error:
         raise FilmError(f"{path}: {error}")
 

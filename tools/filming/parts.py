@@ -1,6 +1,7 @@
 # A film cut into parts. Each is a patch file that can be read by itself: it begins with the records before the cut on which its answers depend.
 import os
 import re
+from itertools import chain, islice
 from typing import List, NamedTuple
 from zlib import crc32
 
@@ -76,11 +77,13 @@ def table_of(rows):
 
 def split_film(blocks, folder, count):
     """Writes the parts, `count` records to each, and last the table by which they are joined; gives its rows."""
+    parts = cut(stream(blocks), count)
+    first = list(islice(parts, 1))  # what cannot be read leaves no folder
     os.makedirs(folder, exist_ok=True)
     if os.listdir(folder):
         raise FilmError(f"{folder} is not empty")
     rows = []
-    for index, part in enumerate(cut(stream(blocks), count), 1):
+    for index, part in enumerate(chain(first, parts), 1):
         row = Row(name_of(index), part.first, len(part.records), len(part.repeated), crc32(part.data()))
         write_file(os.path.join(folder, row.name + ".patch"), part.data(), os.O_EXCL)
         rows.append(row)

@@ -3,7 +3,7 @@ import os
 import subprocess
 import tempfile
 from collections import deque
-from concurrent.futures import ThreadPoolExecutor
+from concurrent.futures import ThreadPoolExecutor, wait
 
 from filming.joining import numbered, pour
 from filming.parts import cut
@@ -75,6 +75,8 @@ def settle(started, most, bar):
     """Writes parts in order while they are done, and waits for those that are more than `most`."""
     while len(started) > most or (started and started[0][1].done()):
         part, answer = started.popleft()
+        while not wait([answer], timeout=1).done:
+            bar.show()
         write_part(part, answer)
         bar.add(len(part.records), sum(len(record.data) for record in part.records))
 

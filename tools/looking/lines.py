@@ -1,8 +1,8 @@
 # Each record in text form, and below it the program's lines beside what they say.
 from looking.causes import cause, derived_words
-from looking.form import byte_lines, line_of, width_of
+from looking.form import BYTES_IN_LINE, byte_lines, line_of, width_of
 
-SHOWN_BYTES = 4  # lines of bytes shown of a record where the program stops
+SHOWN_LINES = 4  # lines of bytes shown of a record where the program stops
 INDENT = "     "
 WIDEST = 24  # a longer line of the program has its words below it
 
@@ -49,10 +49,11 @@ def asked_lines(answer, width):
     record = answer.record
     if not record.flaw:
         return [f"{answer.number:<4} {line_of(record, width)}"]
-    lines = byte_lines(record.data)
-    shown = [f"{answer.number:<4} {lines[0]}"] + [INDENT + line for line in lines[1:SHOWN_BYTES]]
-    if len(lines) > SHOWN_BYTES:
-        shown.append(f"{INDENT}# and {len(lines) - SHOWN_BYTES} more such lines")
+    lines = byte_lines(record.data[: SHOWN_LINES * BYTES_IN_LINE])
+    shown = [f"{answer.number:<4} {lines[0]}"] + [INDENT + line for line in lines[1:]]
+    more = -(-len(record.data) // BYTES_IN_LINE) - SHOWN_LINES
+    if more > 0:
+        shown.append(f"{INDENT}# and {more} more such lines")
     return shown
 
 

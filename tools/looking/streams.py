@@ -1,8 +1,29 @@
 # Bytes from and to files, each one or an error that names the file; one that is not ready is waited for.
+import errno
 import os
 import select
+import sys
 
 BLOCK = 1 << 16
+LONGEST = 4096  # more than any line of an output
+
+
+def check_standard():
+    """Before any file is opened: a closed standard stream would give its number to that file, which would be read or written in its place."""
+    if sys.stderr is None:
+        os.dup2(os.open(os.devnull, os.O_WRONLY), 2)
+        sys.stderr = open(2, "w", closefd=False)
+    for stream, name in ((sys.stdin, "standard input"), (sys.stdout, "standard output")):
+        if stream is None:
+            raise OSError(errno.EBADF, "closed", name)
+
+
+def say(name, words):
+    """A message, each line behind the tool's name. That nobody can read it is no failure of its own."""
+    try:
+        print("".join(f"{name}: {line}\n" for line in words.splitlines()), end="", file=sys.stderr, flush=True)
+    except OSError:
+        pass
 
 
 def read_blocks(fd, name="standard input"):
@@ -29,14 +50,16 @@ def read_file(name):
 
 
 def read_lines(name):
-    """The lines of a file with their ends; what is not ASCII becomes a sign that no output has."""
+    """The lines of a file with their ends; what is not ASCII becomes a sign that no output has, and a line that is longer than any ends them."""
     with open(name, "rb", buffering=0) as file:
         rest = b""
         for block in read_blocks(file.fileno(), name):
             *lines, rest = (rest + block).split(b"\n")
             yield from (line.decode("ascii", "replace") + "\n" for line in lines)
+            if len(rest) > LONGEST:
+                break
     if rest:
-        yield rest.decode("ascii", "replace")
+        yield rest[:80].decode("ascii", "replace")
 
 
 def write_all(data, fd=1, name="standard output"):

@@ -104,7 +104,7 @@ class Parts(unittest.TestCase):
             shutil.rmtree(self.folder)
 
     def test_no_record(self):
-        self.assertIn("0 records in 0 parts", self.split_and_run(b"", 5))
+        self.assertIn("0 records, parts: 0", self.split_and_run(b"", 5))
         self.assertEqual(film("join", self.folder), (0, b"", ""))
 
     def test_an_old_folder_is_not_written_to(self):
@@ -247,7 +247,7 @@ class Run(unittest.TestCase):
             self.assertIn(f"{name}: {words}", said)
         command = ["sh", "-c", '"$0" run --program true - 2 <&-', str(TOP / "tools/film")]
         done = subprocess.run(command, stdout=subprocess.PIPE, stderr=subprocess.PIPE)
-        self.assertEqual((done.returncode, done.stderr), (1, b"film: standard input: Bad file descriptor\n"))
+        self.assertEqual((done.returncode, done.stderr), (1, b"film: standard input: closed\n"))
         self.assertEqual(film("run", "--program", " ", "-", 2)[0], 2)
 
     def test_signals(self):
@@ -257,7 +257,7 @@ class Run(unittest.TestCase):
             script.write_text('#!/bin/sh\n[ -s /dev/stdin ] || exit 0\necho $$ >> "$0.pids"\nexec sleep 60\n')
             script.chmod(0o755)
             command = [sys.executable, str(TOP / "tools/film"), "run", "--program", str(script), str(sample("clean")), "2"]
-            for number in (signal.SIGHUP, signal.SIGINT, signal.SIGTERM):
+            for number in (signal.SIGHUP, signal.SIGINT, signal.SIGQUIT, signal.SIGTERM):
                 Path(f"{script}.pids").unlink(missing_ok=True)
                 process = subprocess.Popen(command, stdout=subprocess.PIPE, env={**os.environ, "TMPDIR": room})
                 while not Path(f"{script}.pids").exists() or not Path(f"{script}.pids").read_text().endswith("\n"):
@@ -281,9 +281,9 @@ class Bars(unittest.TestCase):
         shown = bar.Bar(1000)
         shown.start -= 10
         shown.add(50, 250)
-        self.assertRegex(shown.text(), r"^\[#{7} {23}\]  25% 50 records, 5 a second, 0:00:10, 0:00:(29|30) left$")
+        self.assertRegex(shown.text(), r"^\[#{5} {15}\]  25% 50 records, 5/s, 0:00:10, 0:00:(29|30) left$")
         shown.add(150, 750)
-        self.assertRegex(shown.text(), r"^\[#{30}\] 100% 200 records, (19|20) a second, 0:00:10$")
+        self.assertRegex(shown.text(), r"^\[#{20}\] 100% 200 records, (19|20)/s, 0:00:10$")
         unknown = bar.Bar(None)
         unknown.add(7, 100)
         self.assertTrue(unknown.text().startswith("7 records, "))

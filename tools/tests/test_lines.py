@@ -117,9 +117,15 @@ class Worked(unittest.TestCase):
         self.assertEqual(code.accepted_taus(Setting(929, 64, 2, 1, 0)), list(range(39, 54)))
         self.assertEqual(code.accepted_taus(Setting(929, 64, 2, 4, 0)), [])
 
-    def test_a_tau_without_any_accepted(self):
-        data = read(b"setting p 929 n 64 k 2 s 4 tau 56\n")
-        self.assertIn("refused 3: U ≤ C: τ is too large; no τ is accepted with this n, k and s (", lines.show(ask("1 1 3\n", data)))
+    def test_which_tau_the_program_takes(self):
+        for numbers, refusal, words in [
+            ("n 64 k 2 s 4 tau 56", 3, "τ is too large; no τ is accepted with this n, k and s ("),
+            ("n 64 k 32 s 4 tau 30", 3, "τ is too large; the largest accepted is 17, which needs more work than the program has (8) ("),
+            ("n 64 k 3 s 2 tau 0", 4, "τ is too small; the smallest accepted is 43 ("),
+            ("n 32 k 8 s 4 tau 17", 3, "τ is too large; the largest accepted is 16 ("),
+        ]:
+            shown = lines.show(ask(f"1 1 {refusal}\n", read(f"setting p 929 {numbers}\n".encode())))
+            self.assertIn(words, shown)
 
     def test_ranges_of_document_01(self):
         inside = [(7, 2, 2, 1, 0), (7, 64, 64, 4, 63), (7, 7, 7, 1, 6)]

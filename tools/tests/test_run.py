@@ -203,6 +203,13 @@ class Words(unittest.TestCase):
         self.assertEqual((code, output), (1, ""))
         self.assertIn("/nowhere/at-all: No such file", said)
 
+    def test_by_a_link(self):
+        with tempfile.TemporaryDirectory() as room:
+            link = Path(room, "read")
+            link.symlink_to(RUN)
+            done = subprocess.run([link, "patch", sample("clean")], stdout=subprocess.PIPE)
+        self.assertEqual((done.returncode, done.stdout.decode()), (0, PRINTED["clean"]))
+
     def test_usage(self):
         for words in (["-h"], ["--help"]):
             code, output, said = self.asked(*words)
@@ -269,7 +276,7 @@ class OtherTrees(unittest.TestCase):
         """On the program that is there, or refused."""
         tools = self.kit.parent / "tools"
         tools.mkdir()
-        for name in ("awk", "bash", "cat", "dirname", "env", "sh"):
+        for name in ("awk", "bash", "cat", "dirname", "env", "readlink", "sh"):
             (tools / name).symlink_to(shutil.which(name))
         user = self.start(str(tools))
         self.assertIn(b"no kit here", user.communicate()[1])
