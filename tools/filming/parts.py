@@ -84,8 +84,9 @@ def split_film(blocks, folder, count):
         raise FilmError(f"{folder} is not empty")
     rows = []
     for index, part in enumerate(chain(first, parts), 1):
-        row = Row(name_of(index), part.first, len(part.records), len(part.repeated), crc32(part.data()))
-        write_file(os.path.join(folder, row.name + ".patch"), part.data(), os.O_EXCL)
+        data = part.data()
+        row = Row(name_of(index), part.first, len(part.records), len(part.repeated), crc32(data))
+        write_file(os.path.join(folder, row.name + ".patch"), data, os.O_EXCL)
         rows.append(row)
     table = os.path.join(folder, TABLE)
     write_file(table + ".new", table_of(rows).encode(), os.O_EXCL)
