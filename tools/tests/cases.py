@@ -5,6 +5,7 @@ import shutil
 import subprocess
 import sys
 import tempfile
+import time
 import unittest
 from pathlib import Path
 
@@ -52,6 +53,15 @@ def needs(found, words):
     if found() is None:
         print(f"tools/tests: skipped, {words}")
     return unittest.skipIf(found() is None, words)
+
+
+def until(found):
+    """What is found, as soon as there is something; a test that waits for ever is no test."""
+    for _ in range(600):
+        if found():
+            return found()
+        time.sleep(0.05)
+    raise AssertionError("waited for 30 seconds")
 
 
 class Fake:

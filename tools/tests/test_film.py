@@ -8,12 +8,11 @@ import signal
 import subprocess
 import sys
 import tempfile
-import time
 import unittest
 from pathlib import Path
 from unittest import mock
 
-from cases import PATCHES, TOP, needs, program, sample
+from cases import PATCHES, TOP, needs, program, sample, until
 from filming import bar, joining, parts, running
 from looking.answers import ProgramError
 from looking.records import join, split, stream
@@ -257,16 +256,16 @@ class Run(unittest.TestCase):
             script.write_text('#!/bin/sh\n[ -s /dev/stdin ] || exit 0\necho $$ >> "$0.pids"\nexec sleep 60\n')
             script.chmod(0o755)
             command = [sys.executable, str(TOP / "tools/film"), "run", "--program", str(script), str(sample("clean")), "2"]
+            running = Path(room, "waits.pids")
             for number in (signal.SIGHUP, signal.SIGINT, signal.SIGQUIT, signal.SIGTERM):
-                Path(f"{script}.pids").unlink(missing_ok=True)
+                running.write_text("")
                 process = subprocess.Popen(command, stdout=subprocess.PIPE, env={**os.environ, "TMPDIR": room})
-                while not Path(f"{script}.pids").exists() or not Path(f"{script}.pids").read_text().endswith("\n"):
-                    time.sleep(0.05)
+                pid = until(lambda: running.read_text().endswith("\n") and running.read_text().strip())
                 process.send_signal(number)
                 self.assertEqual(process.communicate()[0], b"")
                 self.assertEqual(process.returncode, 128 + number)
                 self.assertEqual(list(Path(room).glob("film-*")), [])
-                self.assertFalse(Path("/proc", Path(f"{script}.pids").read_text().strip()).exists())
+                self.assertFalse(Path("/proc", pid).exists())
 
     def test_full_device(self):
         command = [sys.executable, str(TOP / "tools/film"), "run", "--program", " ".join(program()), str(sample("clean")), "2"]

@@ -12,7 +12,7 @@ import time
 import unittest
 from pathlib import Path
 
-from cases import PRINTED, TOP, needs, patch_program, sample
+from cases import PRINTED, TOP, needs, patch_program, sample, until
 from looking.records import join
 
 RUN = str(TOP / "tools" / "run")
@@ -265,8 +265,7 @@ class OtherTrees(unittest.TestCase):
 
     def test_a_change_of_the_file_does_not_reach_a_run(self):
         user = self.start(f"{self.kit}:{os.environ['PATH']}")
-        while not (self.kit / "log").exists():
-            time.sleep(0.05)
+        until((self.kit / "log").exists)
         time.sleep(1)
         (self.top / "tools/run").write_text("nonsense\n" * 1000)
         self.assertEqual(user.communicate(b"all of it")[0], b"all of it")
