@@ -13,6 +13,9 @@ sys.dont_write_bytecode = True
 TOP = Path(__file__).resolve().parents[2]
 sys.path.insert(0, str(TOP / "tools"))
 
+from looking.records import join  # noqa: E402
+
+SEVEN = [join(1, (7, 7, 2, 1, 3)), join(2, range(7))]  # a setting and its points
 PATCHES = sorted(TOP.glob("samples/*.patch")) + sorted(TOP.glob("vectors/*.patch"))
 
 # What the program prints for each sample; a test holds it against the real program.

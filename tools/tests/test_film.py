@@ -12,12 +12,10 @@ import unittest
 from pathlib import Path
 from unittest import mock
 
-from cases import PATCHES, TOP, needs, program, sample, until
+from cases import PATCHES, SEVEN, TOP, needs, program, sample, until
 from filming import bar, joining, parts, running
 from looking.answers import ProgramError
 from looking.records import join, split, stream
-
-SEVEN = [join(1, (7, 7, 2, 1, 3)), join(2, range(7))]
 
 
 def film(*args, data=b""):

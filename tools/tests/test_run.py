@@ -12,11 +12,10 @@ import time
 import unittest
 from pathlib import Path
 
-from cases import PRINTED, TOP, needs, patch_program, sample, until
+from cases import PRINTED, SEVEN, TOP, needs, patch_program, sample, until
 from looking.records import join
 
 RUN = str(TOP / "tools" / "run")
-SEVEN = [join(1, (7, 7, 2, 1, 3)), join(2, range(7))]
 WORDS = 6000
 REEL = b"".join(SEVEN) + join(3, (0, 0, 0, 0, 4, 5, 6)) * WORDS  # about 120 KB of output: more than a pipe holds
 LINES = "1 1 0\n2 2 0\n" + "".join(f"{i} 3 0 2\n+ 0 0\n+ 0 1\n" for i in range(3, WORDS + 3))
