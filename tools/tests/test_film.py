@@ -189,8 +189,8 @@ class Parts(unittest.TestCase):
 
 @needs(program, "there is no program to run films with")
 class Run(unittest.TestCase):
-    def run_film(self, data, jobs, *args):
-        return film("run", "--program", " ".join(program()), "-", jobs, *args, data=data)
+    def run_film(self, data, jobs):
+        return film("run", "--program", " ".join(program()), "-", jobs, data=data)
 
     def test_same_bytes(self):
         data = made_film(9000)

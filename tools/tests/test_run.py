@@ -172,7 +172,7 @@ class Faults(unittest.TestCase):
 
     def test_a_signal_ends_the_program_too(self):
         """It waits for its input; when it is gone the pipe has no reader."""
-        for number in (signal.SIGHUP, signal.SIGINT, signal.SIGTERM):
+        for number in (signal.SIGHUP, signal.SIGINT, signal.SIGQUIT, signal.SIGTERM):
             process = subprocess.Popen(patch_program(), stdin=subprocess.PIPE, stdout=subprocess.PIPE, stderr=subprocess.PIPE)
             process.stdin.write(SEVEN[0])
             process.stdin.flush()
