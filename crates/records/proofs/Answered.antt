@@ -1,8 +1,9 @@
 -- What a word does, from what reading it gave.
-use mathlib.Core.Path.{_≡_, refl, sym, ap, _∙_}
+use mathlib.Core.Path.{_≡_, refl, sym, ap, _∙_, subst}
 use mathlib.Core.Bool.{true}
 use mathlib.Core.List.{List, [], _∷_, _++_}
 use Prim.Native.Nat.{ℕ, _≤_}
+use lib.Dec.{T}
 use lib.ListN.{length, take}
 use borrow.Author.Tests.{eq-eqb, ne-eqb}
 use Rattle.rules.specs.Setting.{Setting}
@@ -12,7 +13,7 @@ use Rattle.text.specs.Wrote.{Wrote}
 use Rattle.text.proofs.Written.{wrote-then, wrote-as}
 use Rattle.records.specs.declared.Held.{Held as Record}
 use Rattle.records.specs.declared.Stage.the-variants.{Nothing, Set, Ready}
-use Rattle.records.specs.Holding.{setting-of, held-of}
+use Rattle.records.specs.Holding.{setting-of, held-of, holding, possible, Sound}
 use Rattle.records.specs.Did.{Did, told-turn}
 use Rattle.records.specs.Heard.{Heard, messages-of}
 use Rattle.records.proofs.Lines.{plus-lines}
@@ -32,8 +33,8 @@ module _ (i : ℕ) {S : Setting} {points word list : List ℕ} {r found : ℕ} (
         wrote-as (wrote-then first rest) (ap (λ n. line (digits i) (3 ∷ 0 ∷ n ∷ []) ++ plus-lines (rows (S .k) found list)) (l .count)
         ∙ ap (λ ms. line (digits i) (3 ∷ 0 ∷ length (messages-of S points word) ∷ []) ++ plus-lines ms) (l .rows-are))
 
-    pub word-heard : {held : Record} → held-of held ≡ ready S points → w ≤ length d →
-        Did (word-turn i S points word) d f (record { held = held; wrote = w; more = true })
+    pub word-heard : {held : Record} → held ≡ holding i (ready S points) → w ≤ length d →
+        Did i (word-turn i S points word) d f (record { held = held; wrote = w; more = true })
     unfolding word-turn
     word-heard {held} k l = record {
       held = k;
@@ -43,18 +44,25 @@ module _ (i : ℕ) {S : Setting} {points word list : List ℕ} {r found : ℕ} (
     }
 
 -- by how much is held
-module _ (i : ℕ) (h : Record) (b : List ℕ) where
-  pub word-nothing : h .stage ≡ Nothing → told-turn (held-of h) i 3 12 true ≡ word-comes i (held-of h) b
+module _ (h : Record) (b : List ℕ) where
+  pub word-nothing : h .stage ≡ Nothing → told-turn (held-of h) (h .turns) 3 12 true ≡ word-comes (h .turns) (held-of h) b
   unfolding word-comes missing
   word-nothing e = rw e
 
-  pub word-set : h .stage ≡ Set → told-turn (held-of h) i 3 12 true ≡ word-comes i (held-of h) b
+  pub word-set : h .stage ≡ Set → told-turn (held-of h) (h .turns) 3 12 true ≡ word-comes (h .turns) (held-of h) b
   unfolding word-comes missing
   word-set e = rw e
 
-  pub held-ready : h .stage ≡ Ready → held-of h ≡ ready (setting-of (h .setting)) (take (h .setting .n) (h .points))
-  held-ready e = rw e
-
-  pub word-ready : h .stage ≡ Ready → word-turn i (setting-of (h .setting)) (take (h .setting .n) (h .points)) b ≡ word-comes i (held-of h) b
+  pub word-ready : h .stage ≡ Ready → word-turn (h .turns) (setting-of (h .setting)) (take (h .setting .n) (h .points)) b ≡ word-comes (h .turns) (held-of h) b
   unfolding word-comes
   word-ready e = rw e
+
+module _ (h : Record) (e : h .stage ≡ Ready) where
+  pub held-ready : held-of h ≡ ready (setting-of (h .setting)) (take (h .setting .n) (h .points))
+  held-ready = rw e
+
+  pub possible-ready : Sound h → T (possible (ready (setting-of (h .setting)) (take (h .setting .n) (h .points))))
+  possible-ready s = subst (λ held. T (possible held)) held-ready (s .accepted)
+
+  pub clean-ready : Sound h → h ≡ holding (h .turns) (ready (setting-of (h .setting)) (take (h .setting .n) (h .points)))
+  clean-ready s = s .clean ∙ ap (holding (h .turns)) held-ready

@@ -1,8 +1,8 @@
 -- A record by its kind, and what can be held after it.
-use mathlib.Core.Path.{_≡_, refl, sym, _∙_, subst}
+use mathlib.Core.Path.{_≡_, refl, sym, ap, _∙_, subst}
 use mathlib.Core.Bool.{Bool, true, false, cond}
 use mathlib.Core.List.{List, [], _∷_}
-use Prim.Native.Nat.{ℕ}
+use Prim.Native.Nat.{ℕ, _+_}
 use native.Mathlib.Omega.{arith}
 use lib.Dec.{T, eqb}
 use lib.ListN.{length, getD}
@@ -32,9 +32,11 @@ use Rattle.rules.specs.Patch.{
 }
 use Rattle.rules.proofs.Tests.{both, and}
 use Rattle.records.specs.declared.Done.{Done}
-use Rattle.records.specs.Holding.{held-of, possible}
-use Rattle.records.specs.Did.{Did, told-turn}
-use Rattle.records.proofs.Turns.{did-as}
+use Rattle.records.specs.declared.Held.{Held as Record}
+use Rattle.records.specs.Holding.{held-of, begun, possible}
+use Rattle.records.specs.Did.{Did, told-turn, Stepped}
+use Rattle.records.proofs.Holding.{sound}
+use Rattle.records.proofs.Turns.{did-as, did-at}
 
 module _ (i j : ℕ) (held : Held) (numbers : List ℕ) where
   whole-1 : j ≡ 1 → setting-turn i numbers ≡ whole i j held numbers
@@ -120,6 +122,10 @@ word-possible i nothing numbers h = h
 word-possible i (set S) numbers h = h
 word-possible i (ready S points) numbers h = h
 
--- a call that did this turn did the record's
-pub stepped : {t u : Turn} {d e : List ℕ} {r : Done} → Did t d e r → T (possible (t .held)) → t ≡ u → T (possible (held-of (r .held))) × Did u d e r
-stepped {t} {u} {d} {e} {r} g h q = (subst (λ x. T (possible x)) (sym (g .held)) h, did-as g q)
+-- a call that did this turn, which was begun, did the record's
+pub stepped : {held h : Record} {t : Turn} {bytes d e : List ℕ} {r : Done} → h ≡ begun held → Did (h .turns) t d e r → T (possible (t .held)) →
+    t ≡ turn (h .turns) (held-of h) bytes → Stepped held bytes d e r
+stepped {held} {h} {t} {bytes} {d} {e} {r} is g p q =
+    let n : h .turns ≡ held .turns + 1 = ap (λ (h : Record). h .turns) is in
+    let same : turn (h .turns) (held-of h) bytes ≡ turn (held .turns + 1) (held-of held) bytes = ap (λ (h : Record). turn (h .turns) (held-of h) bytes) is in
+    record { sound = sound _ _ (g .held) p; did = did-at (did-as g (q ∙ same)) n }

@@ -2,3 +2,4 @@
 pub mod Holding
 pub mod Did
 pub mod Heard
+pub mod Taken

@@ -1,11 +1,11 @@
 // Records of a patch file: what is held from one to the next, and what is printed for each.
 ghost use mathlib.Core.Path.{_≡_};
-ghost use Prim.Native.Nat.{_≤_};
-ghost use lib.Dec.{T};
-ghost use lib.ListN.{length, take};
-ghost use Rattle.rules.specs.Patch.{nothing, set, ready, turn};
-ghost use Rattle.records.specs.Holding.{setting-of, held-of, possible};
-ghost use Rattle.records.specs.Did.{Did, told-turn};
+ghost use Prim.Native.Nat.{_+_, _-_, _^_, _<_, _≤_};
+ghost use lib.Dec.{eqb};
+ghost use lib.ListN.{length};
+ghost use Rattle.rules.specs.Patch.{nothing, set};
+ghost use Rattle.records.specs.Holding.{setting-of, held-of, holding, begun, with-array, Clean, Sound};
+ghost use Rattle.records.specs.Did.{Did, told-turn, Stepped};
 
 mod points;
 mod settings;
@@ -27,11 +27,13 @@ pub enum Stage {
     Ready,
 }
 
-// What is held: the setting from stage Set on, and at stage Ready the points, which are the first n.
+// What is held: how many turns were taken, the setting from stage Set on, and at stage Ready the points, which are the first n.
+// All else is zero. Nobody but this crate makes or changes one, so that no record's number can be miscounted.
 pub struct Held {
-    pub stage: Stage,
-    pub setting: Setting,
-    pub points: [u16; 64],
+    turns: u64,
+    stage: Stage,
+    setting: Setting,
+    points: [u16; 64],
 }
 
 // What comes of a record: what is held then, how many bytes were written, and whether the program goes on.
@@ -41,11 +43,12 @@ pub struct Done {
     pub more: bool,
 }
 
-// What is held at the start.
-pub fn start() -> Held
-    ensures { λ r. ⌜ held-of r ≡ nothing ⌝ }
+// Nothing is held after so many turns.
+fn without_setting(turns: u64) -> Held
+    ensures { λ r. ⌜ r ≡ holding turns nothing ⌝ }
 {
     Held {
+        turns,
         stage: Stage::Nothing,
         setting: Setting {
             p: 0,
@@ -59,10 +62,11 @@ pub fn start() -> Held
 }
 
 // A setting without points.
-fn with_setting(setting: Setting) -> Held
-    ensures { λ r. ⌜ held-of r ≡ set (setting-of setting) ⌝ }
+fn with_setting(turns: u64, setting: Setting) -> Held
+    ensures { λ r. ⌜ r ≡ holding turns (set (setting-of setting)) ⌝ }
 {
     Held {
+        turns,
         stage: Stage::Set,
         setting,
         points: [0u16; 64],
@@ -70,50 +74,76 @@ fn with_setting(setting: Setting) -> Held
 }
 
 // A setting with points.
-fn with_points(setting: Setting, points: [u16; 64]) -> Held
-    ensures { λ r. ⌜ held-of r ≡ ready (setting-of setting) (take (setting .n) points) ⌝ }
+fn with_points(turns: u64, setting: Setting, points: [u16; 64]) -> Held
+    ensures { λ r. ⌜ r ≡ with-array turns setting points ⌝ }
 {
     Held {
+        turns,
         stage: Stage::Ready,
         setting,
         points,
     }
 }
 
+// What is held at the start.
+pub fn start() -> Held
+    ensures { λ r. ⌜ r ≡ holding 0 nothing ⌝ }
+{
+    without_setting(0)
+}
+
+// Whether no number is left for a further record.
+pub fn is_full(held: Held) -> bool
+    ensures { λ r. ⌜ r ≡ eqb (held .turns) (2 ^ 64 - 1) ⌝ }
+{
+    held.turns == u64::MAX
+}
+
+// A turn begins: it has the next number, and holds what was held.
+fn begin(held: Held) -> Held
+    requires { ⌜ held .turns + 1 < 2 ^ 64 ⌝ }
+    ensures { λ r. ⌜ r ≡ begun held ⌝ }
+{
+    let mut next = held;
+    next.turns += 1;
+    next
+}
+
 // The line of a record that has no list to tell.
-fn told(held: Held, number: u64, kind: u16, refusal: u16, more: bool, out: &mut [u8]) -> Done
-    requires { ⌜ 16384 ≤ length (now out) ⌝ }
-    ensures { λ r. ⌜ Did (told-turn (held-of held) number kind refusal more) (now (out .entry)) (now (out .exit)) r ⌝ }
+fn told(held: Held, kind: u16, refusal: u16, more: bool, out: &mut [u8]) -> Done
+    requires { ⌜ Clean held × (16384 ≤ length (now out)) ⌝ }
+    ensures { λ r. ⌜ Did (held .turns) (told-turn (held-of held) (held .turns) kind refusal more) (now (out .entry)) (now (out .exit)) r ⌝ }
 {
     let fields = [kind, refusal];
-    let wrote = text::numbered_line(number, &fields, out, 0);
+    let wrote = text::numbered_line(held.turns, &fields, out, 0);
     Done { held, wrote, more }
 }
 
-// Record number `number`, of which the input has these bytes: its lines are written at the front of out.
-pub fn step(held: Held, number: u64, bytes: &[u8], out: &mut [u8]) -> Done
-    requires { ⌜ T (possible (held-of held)) × (length (now bytes) ≤ 132) × (16384 ≤ length (now out)) ⌝ }
-    ensures { λ r. ⌜ T (possible (held-of (r .held))) × Did (turn number (held-of held) (now (bytes .entry))) (now (out .entry)) (now (out .exit)) r ⌝ }
+// The next record, of which the input has these bytes: its lines are written at the front of out.
+pub fn step(held: Held, bytes: &[u8], out: &mut [u8]) -> Done
+    requires { ⌜ Sound held × (held .turns + 1 < 2 ^ 64) × (length (now bytes) ≤ 132) × (16384 ≤ length (now out)) ⌝ }
+    ensures { λ r. ⌜ Stepped held (now (bytes .entry)) (now (out .entry)) (now (out .exit)) r ⌝ }
 {
+    let turn = begin(held);
     if bytes.len() == 0 {
         return Done {
-            held,
+            held: turn,
             wrote: 0,
             more: false,
         };
     }
     if parsing::is_broken(bytes) {
-        return told(held, number, 0, 10, false, out);
+        return told(turn, 0, 10, false, out);
     }
     let kind = parsing::pair(bytes, 1);
     if kind == 1 {
-        return settings::take_setting(number, bytes, out);
+        return settings::take_setting(turn.turns, bytes, out);
     }
     if kind == 2 {
-        return points::take_points(held, number, bytes, out);
+        return points::take_points(turn, bytes, out);
     }
     if kind == 3 {
-        return words::take_word(held, number, bytes, out);
+        return words::take_word(turn, bytes, out);
     }
-    told(held, number, kind, 11, true, out)
+    told(turn, kind, 11, true, out)
 }

@@ -3,7 +3,7 @@ ghost use mathlib.Core.Path.{_≡_};
 ghost use Prim.Native.Nat.{_≤_};
 ghost use lib.ListN.{length};
 ghost use Rattle.rules.specs.Patch.{body, points-refusal, points-turn, points-come};
-ghost use Rattle.records.specs.Holding.{setting-of, held-of};
+ghost use Rattle.records.specs.Holding.{setting-of, held-of, Clean};
 ghost use Rattle.records.specs.Did.{Did};
 use crate::Done;
 use crate::Held;
@@ -30,31 +30,31 @@ fn points_refusal(s: Setting, points: &[u16]) -> u16
 }
 
 // Points for this setting.
-fn fit_points(setting: Setting, number: u64, bytes: &[u8], out: &mut [u8]) -> Done
+fn fit_points(number: u64, setting: Setting, bytes: &[u8], out: &mut [u8]) -> Done
     requires { ⌜ (4 ≤ length (now bytes)) × (length (now bytes) ≤ 132) × (16384 ≤ length (now out)) ⌝ }
-    ensures { λ r. ⌜ Did (points-turn number (setting-of setting) (body (now (bytes .entry)))) (now (out .entry)) (now (out .exit)) r ⌝ }
+    ensures { λ r. ⌜ Did number (points-turn number (setting-of setting) (body (now (bytes .entry)))) (now (out .entry)) (now (out .exit)) r ⌝ }
 {
     let mut points = [0u16; 64];
     let m = parsing::read_body(bytes, &mut points);
     let refusal = points_refusal(setting, &points[..m]);
     if refusal == 0 {
-        let held = with_points(setting, points);
-        return told(held, number, 2, 0, true, out);
+        let held = with_points(number, setting, points);
+        return told(held, 2, 0, true, out);
     }
-    let held = with_setting(setting);
-    told(held, number, 2, refusal, true, out)
+    let held = with_setting(number, setting);
+    told(held, 2, refusal, true, out)
 }
 
 // 12 where no setting is held, before the body is read.
-pub fn take_points(held: Held, number: u64, bytes: &[u8], out: &mut [u8]) -> Done
-    requires { ⌜ (4 ≤ length (now bytes)) × (length (now bytes) ≤ 132) × (16384 ≤ length (now out)) ⌝ }
-    ensures { λ r. ⌜ Did (points-come number (held-of held) (body (now (bytes .entry)))) (now (out .entry)) (now (out .exit)) r ⌝ }
+pub fn take_points(held: Held, bytes: &[u8], out: &mut [u8]) -> Done
+    requires { ⌜ Clean held × (4 ≤ length (now bytes)) × (length (now bytes) ≤ 132) × (16384 ≤ length (now out)) ⌝ }
+    ensures { λ r. ⌜ Did (held .turns) (points-come (held .turns) (held-of held) (body (now (bytes .entry)))) (now (out .entry)) (now (out .exit)) r ⌝ }
 {
     let stage = held.stage;
     let setting = held.setting;
     match stage {
-        Stage::Nothing => told(held, number, 2, 12, true, out),
-        Stage::Set => fit_points(setting, number, bytes, out),
-        Stage::Ready => fit_points(setting, number, bytes, out),
+        Stage::Nothing => told(held, 2, 12, true, out),
+        Stage::Set => fit_points(held.turns, setting, bytes, out),
+        Stage::Ready => fit_points(held.turns, setting, bytes, out),
     }
 }

@@ -7,9 +7,9 @@ ghost use Rattle.records.specs.Holding.{setting-of};
 ghost use Rattle.records.specs.Did.{Did};
 use crate::Done;
 use crate::Setting;
-use crate::start;
 use crate::told;
 use crate::with_setting;
+use crate::without_setting;
 
 // The setting in the body.
 fn read_setting(bytes: &[u8]) -> Setting
@@ -47,14 +47,14 @@ fn setting_refusal(s: Setting) -> u16
 // A setting that is accepted is held, and any other leaves nothing held.
 pub fn take_setting(number: u64, bytes: &[u8], out: &mut [u8]) -> Done
     requires { ⌜ (14 ≤ length (now bytes)) × (16384 ≤ length (now out)) ⌝ }
-    ensures { λ r. ⌜ Did (setting-turn number (body (now (bytes .entry)))) (now (out .entry)) (now (out .exit)) r ⌝ }
+    ensures { λ r. ⌜ Did number (setting-turn number (body (now (bytes .entry)))) (now (out .entry)) (now (out .exit)) r ⌝ }
 {
     let setting = read_setting(bytes);
     let refusal = setting_refusal(setting);
     if refusal == 0 {
-        let held = with_setting(setting);
-        return told(held, number, 1, 0, true, out);
+        let held = with_setting(number, setting);
+        return told(held, 1, 0, true, out);
     }
-    let held = start();
-    told(held, number, 1, refusal, true, out)
+    let held = without_setting(number);
+    told(held, 1, refusal, true, out)
 }

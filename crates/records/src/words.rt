@@ -1,12 +1,14 @@
 // A record of kind 3: the word is read with the setting and the points that are held.
+ghost use mathlib.Core.Path.{_≡_};
 ghost use mathlib.Core.List.{[], _∷_, flatMap};
 ghost use Prim.Native.Nat.{_+_, _*_, _≤_};
 ghost use lib.Dec.{T};
 ghost use lib.ListN.{length, take};
-ghost use Rattle.rules.specs.Patch.{ready, line, body, word-turn, word-comes};
+ghost use Rattle.rules.specs.Patch.{ready, line, body, word-comes};
 ghost use Rattle.rules.specs.Search.{rows};
 ghost use Rattle.text.specs.Wrote.{Wrote};
-ghost use Rattle.records.specs.Holding.{setting-of, held-of, possible};
+ghost use Rattle.records.specs.declared.Stage.the-variants.{Ready};
+ghost use Rattle.records.specs.Holding.{setting-of, held-of, possible, Sound};
 ghost use Rattle.records.specs.Did.{Did};
 ghost use Rattle.records.specs.Heard.{Heard};
 use crate::Done;
@@ -14,10 +16,9 @@ use crate::Held;
 use crate::Setting;
 use crate::Stage;
 use crate::told;
-use crate::with_points;
 
 // What reading a word gives: the refusal number or 0, and how many candidates there are.
-struct Answer {
+struct Reply {
     refusal: u16,
     found: u16,
 }
@@ -47,7 +48,7 @@ fn read_held(
     word: &[u16; 64],
     m: usize,
     list: &mut [u16; 1536],
-) -> Answer
+) -> Reply
     requires { ⌜ T (possible (ready (setting-of s) (take (s .n) (now points)))) × (m ≤ 64) ⌝ }
     ensures { λ r. ⌜ Heard (setting-of s) (take (s .n) (now (points .entry))) (take m (now (word .entry))) (now (list .exit)) (r .refusal) (r .found) ⌝ }
 {
@@ -68,31 +69,30 @@ fn read_held(
         &mut curve,
         &mut work,
     );
-    Answer {
+    Reply {
         refusal: reading.refusal,
         found: reading.found as u16,
     }
 }
 
-// A word for this setting and these points.
-fn read_word(setting: Setting, points: [u16; 64], number: u64, bytes: &[u8], out: &mut [u8]) -> Done
-    requires { ⌜ T (possible (ready (setting-of setting) (take (setting .n) points))) × (4 ≤ length (now bytes)) × (length (now bytes) ≤ 132)
-        × (16384 ≤ length (now out)) ⌝ }
-    ensures { λ r. ⌜ Did (word-turn number (setting-of setting) (take (setting .n) points) (body (now (bytes .entry)))) (now (out .entry))
-        (now (out .exit)) r ⌝ }
+// A word for the setting and the points that are held.
+fn read_word(held: Held, bytes: &[u8], out: &mut [u8]) -> Done
+    requires { ⌜ Sound held × (held .stage ≡ Ready) × (4 ≤ length (now bytes)) × (length (now bytes) ≤ 132) × (16384 ≤ length (now out)) ⌝ }
+    ensures { λ r. ⌜ Did (held .turns) (word-comes (held .turns) (held-of held) (body (now (bytes .entry)))) (now (out .entry)) (now (out .exit)) r ⌝ }
 {
-    let held = with_points(setting, points);
+    let setting = held.setting;
+    let points = held.points;
     let mut word = [0u16; 64];
     let m = parsing::read_body(bytes, &mut word);
     let mut list = [0u16; 1536];
-    let answer = read_held(setting, &points, &word, m, &mut list);
-    let refusal = answer.refusal;
+    let reply = read_held(setting, &points, &word, m, &mut list);
+    let refusal = reply.refusal;
     if refusal != 0 {
-        return told(held, number, 3, refusal, true, out);
+        return told(held, 3, refusal, true, out);
     }
-    let found = answer.found;
+    let found = reply.found;
     let fields = [3, 0, found];
-    let at = text::numbered_line(number, &fields, out, 0);
+    let at = text::numbered_line(held.turns, &fields, out, 0);
     let wrote = candidates(&list, setting.k as usize, found as usize, out, at);
     Done {
         held,
@@ -102,16 +102,14 @@ fn read_word(setting: Setting, points: [u16; 64], number: u64, bytes: &[u8], out
 }
 
 // 12 where no points are held, before the body is read.
-pub fn take_word(held: Held, number: u64, bytes: &[u8], out: &mut [u8]) -> Done
-    requires { ⌜ T (possible (held-of held)) × (4 ≤ length (now bytes)) × (length (now bytes) ≤ 132) × (16384 ≤ length (now out)) ⌝ }
-    ensures { λ r. ⌜ Did (word-comes number (held-of held) (body (now (bytes .entry)))) (now (out .entry)) (now (out .exit)) r ⌝ }
+pub fn take_word(held: Held, bytes: &[u8], out: &mut [u8]) -> Done
+    requires { ⌜ Sound held × (4 ≤ length (now bytes)) × (length (now bytes) ≤ 132) × (16384 ≤ length (now out)) ⌝ }
+    ensures { λ r. ⌜ Did (held .turns) (word-comes (held .turns) (held-of held) (body (now (bytes .entry)))) (now (out .entry)) (now (out .exit)) r ⌝ }
 {
     let stage = held.stage;
-    let setting = held.setting;
-    let points = held.points;
     match stage {
-        Stage::Nothing => told(held, number, 3, 12, true, out),
-        Stage::Set => told(held, number, 3, 12, true, out),
-        Stage::Ready => read_word(setting, points, number, bytes, out),
+        Stage::Nothing => told(held, 3, 12, true, out),
+        Stage::Set => told(held, 3, 12, true, out),
+        Stage::Ready => read_word(held, bytes, out),
     }
 }

@@ -3,7 +3,7 @@ use mathlib.Core.Path.{refl, sym, _∙_}
 use Rattle.rules.specs.Patch.{kind}
 use Rattle.parsing.proofs.Shape.{whole-long, whole-five}
 use Rattle.text.proofs.Written.{wrote-none}
-use Rattle.records.specs.Holding.{held-of}
+use Rattle.records.proofs.Holding.{sound-begun}
 use Rattle.records.proofs.Steps.{
   turn-end,
   turn-broken,
@@ -21,17 +21,25 @@ use borrow.Author.Needs.{needs}
 use Rattle.records.proofs.step.Statement.{statement}
 use Rattle.records.proofs.step.Tie as tie
 
+begin-requires : tie.Need-begin-requires
+begin-requires c κs = search needs
+
 returns : tie.Need-returns
 returns c =
-    let start = c .before .before .before in
-    stepped (record { held = refl; text = wrote-none _ _; more = refl; within = omega arith }) (start .pre .0)
-    (turn-end (start .args .number) (held-of (start .args .held)) (start .args .bytes .now) (c .if1 .taken))
+    let at-begin = c .before in
+    let start = at-begin .before .before .before in
+    let begun = sound-begun (start .pre .0) (at-begin .begin .ensures) in
+    stepped (at-begin .begin .ensures) (record { held = begun .clean; text = wrote-none _ _; more = refl; within = omega arith }) (begun .accepted)
+    (turn-end _ _ _ (c .if1 .taken))
 
 is-broken-requires : tie.Need-is-broken-requires
 is-broken-requires c κs = search needs
 
 told-requires : tie.Need-told-requires
-told-requires c κs = search needs
+told-requires c κs =
+    let at-begin = c .before .before .before .before in
+    let start = at-begin .before .before .before in
+    (sound-begun (start .pre .0) (at-begin .begin .ensures) .clean, search needs)
 
 same-length : tie.Need-same-length
 same-length c = search needs
@@ -42,12 +50,15 @@ returns-2 c =
     let at-if2 = at-told .before .before in
     let at-is-broken = at-if2 .before in
     let at-if1 = at-is-broken .before in
-    let start = at-if1 .before .before .before in
-    stepped (at-told .told .ensures) (start .pre .0) (turn-broken _ _ _ (at-if1 .if1 .left) (sym (at-is-broken .is-broken .ensures) ∙ at-if2 .if2 .taken))
+    let at-begin = at-if1 .before in
+    let start = at-begin .before .before .before in
+    stepped (at-begin .begin .ensures) (at-told .told .ensures) (sound-begun (start .pre .0) (at-begin .begin .ensures) .accepted)
+    (turn-broken _ _ _ (at-if1 .if1 .left) (sym (at-is-broken .is-broken .ensures) ∙ at-if2 .if2 .taken))
 
 pair-requires : tie.Need-pair-requires
 pair-requires c κs =
-    let start = c .before .before .before .before .before in
+    let at-begin = c .before .before .before in
+    let start = at-begin .before .before .before in
     let w = whole-long (start .args .bytes .now) (sym (c .before .is-broken .ensures) ∙ c .if2 .left) in omega arith
 
 take-setting-requires : tie.Need-take-setting-requires
@@ -56,7 +67,8 @@ take-setting-requires c κs =
     let at-pair = c .before .before in
     let at-if2 = at-pair .before in
     let at-is-broken = at-if2 .before in
-    let start = at-is-broken .before .before .before .before in
+    let at-begin = at-is-broken .before .before in
+    let start = at-begin .before .before .before in
     let whole = sym (at-is-broken .is-broken .ensures) ∙ at-if2 .if2 .left in
     let w = whole-long (start .args .bytes .now) whole in
     let f = whole-five (start .args .bytes .now) whole (sym (at-pair .pair .ensures) ∙ c .before .if3 .taken) in
@@ -73,16 +85,17 @@ returns-3 c =
     let at-if2 = at-pair .before in
     let at-is-broken = at-if2 .before in
     let at-if1 = at-is-broken .before in
-    stepped (at-take-setting .take-setting .ensures) (setting-possible _ _)
+    stepped (at-if1 .before .begin .ensures) (at-take-setting .take-setting .ensures) (setting-possible _ _)
     (turn-setting _ _ _ (at-if1 .if1 .left) (sym (at-is-broken .is-broken .ensures) ∙ at-if2 .if2 .left) (at-pair .pair .ensures) (at-if3 .if3 .taken))
 
 take-points-requires : tie.Need-take-points-requires
 take-points-requires c κs =
     let at-if2 = c .before .before .before .before in
     let at-is-broken = at-if2 .before in
-    let start = at-is-broken .before .before .before .before in
+    let at-begin = at-is-broken .before .before in
+    let start = at-begin .before .before .before in
     let w = whole-long (start .args .bytes .now) (sym (at-is-broken .is-broken .ensures) ∙ at-if2 .if2 .left) in
-    (omega arith, start .pre .1, search needs)
+    (sound-begun (start .pre .0) (at-begin .begin .ensures) .clean, omega arith, start .pre .2, search needs)
 
 same-length-3 : tie.Need-same-length-3
 same-length-3 c = search needs
@@ -95,17 +108,20 @@ returns-4 c =
     let at-if2 = at-pair .before in
     let at-is-broken = at-if2 .before in
     let at-if1 = at-is-broken .before in
-    let start = at-if1 .before .before .before in
-    stepped (at-take-points .take-points .ensures) (come-possible _ _ _ (start .pre .0))
+    let at-begin = at-if1 .before in
+    let start = at-begin .before .before .before in
+    stepped (at-begin .begin .ensures) (at-take-points .take-points .ensures)
+    (come-possible _ _ _ (sound-begun (start .pre .0) (at-begin .begin .ensures) .accepted))
     (turn-points _ _ _ (at-if1 .if1 .left) (sym (at-is-broken .is-broken .ensures) ∙ at-if2 .if2 .left) (at-pair .pair .ensures) (at-if4 .if4 .taken))
 
 take-word-requires : tie.Need-take-word-requires
 take-word-requires c κs =
     let at-if2 = c .before .before .before .before .before in
     let at-is-broken = at-if2 .before in
-    let start = at-is-broken .before .before .before .before in
+    let at-begin = at-is-broken .before .before in
+    let start = at-begin .before .before .before in
     let w = whole-long (start .args .bytes .now) (sym (at-is-broken .is-broken .ensures) ∙ at-if2 .if2 .left) in
-    (start .pre .0, omega arith, start .pre .1, search needs)
+    (sound-begun (start .pre .0) (at-begin .begin .ensures), omega arith, start .pre .2, search needs)
 
 same-length-4 : tie.Need-same-length-4
 same-length-4 c = search needs
@@ -118,12 +134,18 @@ returns-5 c =
     let at-if2 = at-pair .before in
     let at-is-broken = at-if2 .before in
     let at-if1 = at-is-broken .before in
-    let start = at-if1 .before .before .before in
-    stepped (at-take-word .take-word .ensures) (word-possible _ _ _ (start .pre .0))
+    let at-begin = at-if1 .before in
+    let start = at-begin .before .before .before in
+    stepped (at-begin .begin .ensures) (at-take-word .take-word .ensures)
+    (word-possible _ _ _ (sound-begun (start .pre .0) (at-begin .begin .ensures) .accepted))
     (turn-word _ _ _ (at-if1 .if1 .left) (sym (at-is-broken .is-broken .ensures) ∙ at-if2 .if2 .left) (at-pair .pair .ensures) (at-if5 .if5 .taken))
 
 told-requires-2 : tie.Need-told-requires-2
-told-requires-2 c κs = search needs
+told-requires-2 c κs =
+    let at-if2 = c .before .before .before .before .before in
+    let at-begin = at-if2 .before .before .before in
+    let start = at-begin .before .before .before in
+    (sound-begun (start .pre .0) (at-begin .begin .ensures) .clean, search needs)
 
 same-length-5 : tie.Need-same-length-5
 same-length-5 c = search needs
@@ -138,8 +160,9 @@ returns-6 c =
     let at-if2 = at-pair .before in
     let at-is-broken = at-if2 .before in
     let at-if1 = at-is-broken .before in
-    let start = at-if1 .before .before .before in
-    stepped (at-told2 .told2 .ensures) (start .pre .0)
+    let at-begin = at-if1 .before in
+    let start = at-begin .before .before .before in
+    stepped (at-begin .begin .ensures) (at-told2 .told2 .ensures) (sound-begun (start .pre .0) (at-begin .begin .ensures) .accepted)
     (turn-other _ _ _ (at-if1 .if1 .left) (sym (at-is-broken .is-broken .ensures) ∙ at-if2 .if2 .left) (at-pair .pair .ensures)
     (at-if3 .if3 .left) (at-if4 .if4 .left) (at-if5 .if5 .left))
 
@@ -147,6 +170,7 @@ pub step-spec : {M : Type 1} → statement M
 step-spec =
     tie.close
     (tie.spec
+    begin-requires
     returns
     is-broken-requires
     told-requires

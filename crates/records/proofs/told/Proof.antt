@@ -17,12 +17,15 @@ same-length c = search needs
 
 returns : tie.Need-returns
 unfolding report
-returns c = record {
-  held = refl;
-  text = c .before .before .numbered-line .ensures .1;
-  more = refl;
-  within = omega (arith, c .before .before .numbered-line .ensures .0);
-}
+returns c =
+    let at-line = c .before .before in
+    let start = at-line .before .before .before .before in
+    record {
+      held = start .pre .0;
+      text = at-line .numbered-line .ensures .1;
+      more = refl;
+      within = omega (arith, at-line .numbered-line .ensures .0);
+    }
 
 pub told-spec : {M : Type 1} → statement M
 told-spec =

@@ -2,7 +2,8 @@
 use mathlib.Core.Path.{refl, sym, ap, _∙_}
 use lib.Seq.{length-take-le}
 use Rattle.rules.specs.Patch.{points-refusal}
-use Rattle.records.proofs.Turns.{did-as, body-front, body-short, points-taken, points-refused}
+use Rattle.records.proofs.Holding.{clean, set-kept}
+use Rattle.records.proofs.Turns.{did-as, told-did, body-front, body-short, ready-held, points-taken, points-refused}
 use borrow.Author.Needs.{needs}
 use Rattle.records.proofs.points.fit_points.Statement.{statement}
 use Rattle.records.proofs.points.fit_points.Tie as tie
@@ -23,7 +24,12 @@ with-points-requires : tie.Need-with-points-requires
 with-points-requires c κs = search needs
 
 told-requires : tie.Need-told-requires
-told-requires c κs = search needs
+told-requires c κs =
+    let at-if1 = c .before .before in
+    let at-points-refusal = at-if1 .before in
+    let at-read-body = at-points-refusal .before .before in
+    let held = ready-held (at-read-body .read-body .ensures) (at-points-refusal .points-refusal .ensures) (at-if1 .if1 .taken) (c .before .with-points .ensures) in
+    (clean _ _ (held .0) (held .1), search needs)
 
 same-length : tie.Need-same-length
 same-length c = search needs
@@ -36,15 +42,16 @@ returns c =
     let at-points-refusal = at-if1 .before in
     let at-read-body = at-points-refusal .before .before in
     let read = at-read-body .read-body .ensures in
-    let front = body-front refl read in
-    let is = at-points-refusal .points-refusal .ensures ∙ ap (points-refusal _) front in
-    did-as (at-told .told .ensures) (points-taken _ _ _ is (at-if1 .if1 .taken) _ (read .count) front (at-with-points .with-points .ensures))
+    let is = at-points-refusal .points-refusal .ensures in
+    let held = ready-held read is (at-if1 .if1 .taken) (at-with-points .with-points .ensures) in
+    did-as (told-did 2 0 (held .0) (held .1) (at-told .told .ensures))
+    (points-taken _ _ _ (is ∙ ap (points-refusal _) (body-front refl read)) (at-if1 .if1 .taken))
 
 with-setting-requires : tie.Need-with-setting-requires
 with-setting-requires c κs = search needs
 
 told-requires-2 : tie.Need-told-requires-2
-told-requires-2 c κs = search needs
+told-requires-2 c κs = (clean _ _ (c .before .with-setting .ensures) (set-kept _ _), search needs)
 
 same-length-2 : tie.Need-same-length-2
 same-length-2 c = search needs
@@ -56,9 +63,9 @@ returns-2 c =
     let at-if1 = at-with-setting .before in
     let at-points-refusal = at-if1 .before in
     let at-read-body = at-points-refusal .before .before in
-    let front = body-front refl (at-read-body .read-body .ensures) in
-    let is = at-points-refusal .points-refusal .ensures ∙ ap (points-refusal _) front in
-    did-as (at-told2 .told2 .ensures) (points-refused _ _ _ is (at-if1 .if1 .left) (at-with-setting .with-setting .ensures))
+    let is = at-points-refusal .points-refusal .ensures ∙ ap (points-refusal _) (body-front refl (at-read-body .read-body .ensures)) in
+    did-as (told-did 2 _ (at-with-setting .with-setting .ensures) (set-kept _ _) (at-told2 .told2 .ensures))
+    (points-refused _ _ _ is (at-if1 .if1 .left))
 
 pub fit-points-spec : {M : Type 1} → statement M
 fit-points-spec =

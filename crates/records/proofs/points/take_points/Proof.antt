@@ -26,19 +26,19 @@ same-length : tie.Need-same-length
 same-length c = search needs
 
 returns : tie.Need-returns
-returns c = did-as (c .before .before .told .ensures) (points-missing _ _ _ (c .before .before .before .before .enum-told .given .1))
+returns c = did-as (c .before .before .told .ensures) (points-missing _ _ (c .before .before .before .before .enum-told .given .1))
 
 same-length-2 : tie.Need-same-length-2
 same-length-2 c = search needs
 
 returns-2 : tie.Need-returns-2
-returns-2 c = did-as (c .before .before .fit-points .ensures) (points-set _ _ _ (c .before .before .before .before .enum-told2 .given .1))
+returns-2 c = did-as (c .before .before .fit-points .ensures) (points-set _ _ (c .before .before .before .before .enum-told2 .given .1))
 
 same-length-3 : tie.Need-same-length-3
 same-length-3 c = search needs
 
 returns-3 : tie.Need-returns-3
-returns-3 c = did-as (c .before .before .fit-points2 .ensures) (points-ready _ _ _ (c .before .before .before .before .enum-told3 .given .1))
+returns-3 c = did-as (c .before .before .fit-points2 .ensures) (points-ready _ _ (c .before .before .before .before .enum-told3 .given .1))
 
 pub take-points-spec : {M : Type 1} → statement M
 take-points-spec =

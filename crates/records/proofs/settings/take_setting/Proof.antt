@@ -1,5 +1,6 @@
 -- take_setting: a refused setting leaves nothing held.
-use Rattle.records.proofs.Turns.{did-as, set-taken, set-refused}
+use Rattle.records.proofs.Holding.{clean, set-kept, none-kept}
+use Rattle.records.proofs.Turns.{did-as, told-did, set-taken, set-refused}
 use borrow.Author.Needs.{needs}
 use Rattle.records.proofs.settings.take_setting.Statement.{statement}
 use Rattle.records.proofs.settings.take_setting.Tie as tie
@@ -14,7 +15,7 @@ with-setting-requires : tie.Need-with-setting-requires
 with-setting-requires c κs = search needs
 
 told-requires : tie.Need-told-requires
-told-requires c κs = search needs
+told-requires c κs = (clean _ _ (c .before .with-setting .ensures) (set-kept _ _), search needs)
 
 same-length : tie.Need-same-length
 same-length c = search needs
@@ -26,15 +27,14 @@ returns c =
     let at-if1 = at-with-setting .before in
     let at-setting-refusal = at-if1 .before in
     let at-read-setting = at-setting-refusal .before in
-    did-as (at-told .told .ensures)
-    (set-taken _ _ (at-read-setting .read-setting .ensures) (at-setting-refusal .setting-refusal .ensures) (at-if1 .if1 .taken)
-    (at-with-setting .with-setting .ensures))
+    did-as (told-did 1 0 (at-with-setting .with-setting .ensures) (set-kept _ _) (at-told .told .ensures))
+    (set-taken _ _ (at-read-setting .read-setting .ensures) (at-setting-refusal .setting-refusal .ensures) (at-if1 .if1 .taken))
 
-start-requires : tie.Need-start-requires
-start-requires c κs = search needs
+without-setting-requires : tie.Need-without-setting-requires
+without-setting-requires c κs = search needs
 
 told-requires-2 : tie.Need-told-requires-2
-told-requires-2 c κs = search needs
+told-requires-2 c κs = (clean _ _ (c .before .without-setting .ensures) (none-kept _), search needs)
 
 same-length-2 : tie.Need-same-length-2
 same-length-2 c = search needs
@@ -42,12 +42,12 @@ same-length-2 c = search needs
 returns-2 : tie.Need-returns-2
 returns-2 c =
     let at-told2 = c .before .before in
-    let at-start = at-told2 .before .before in
-    let at-if1 = at-start .before in
+    let at-without-setting = at-told2 .before .before in
+    let at-if1 = at-without-setting .before in
     let at-setting-refusal = at-if1 .before in
     let at-read-setting = at-setting-refusal .before in
-    did-as (at-told2 .told2 .ensures)
-    (set-refused _ _ (at-read-setting .read-setting .ensures) (at-setting-refusal .setting-refusal .ensures) (at-if1 .if1 .left) (at-start .start .ensures))
+    did-as (told-did 1 _ (at-without-setting .without-setting .ensures) (none-kept _) (at-told2 .told2 .ensures))
+    (set-refused _ _ (at-read-setting .read-setting .ensures) (at-setting-refusal .setting-refusal .ensures) (at-if1 .if1 .left))
 
 pub take-setting-spec : {M : Type 1} → statement M
 take-setting-spec =
@@ -59,7 +59,7 @@ take-setting-spec =
     told-requires
     same-length
     returns
-    start-requires
+    without-setting-requires
     told-requires-2
     same-length-2
     returns-2)

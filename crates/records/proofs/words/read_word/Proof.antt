@@ -1,22 +1,22 @@
 -- read_word: the line, and then a line for each reading.
-use mathlib.Core.Path.{refl, sym}
+use mathlib.Core.Path.{refl, sym, _∙_}
 use Rattle.text.proofs.Written.{wrote-len}
 use Rattle.records.proofs.Turns.{did-as, body-front}
 use Rattle.records.proofs.Lines.{lines-room}
-use Rattle.records.proofs.Answered.{heard-as, word-refused, word-heard}
+use Rattle.records.proofs.Answered.{heard-as, word-refused, word-heard, word-ready, held-ready, possible-ready, clean-ready}
 use native.Mathlib.Omega.{arith}
 use borrow.Author.Needs.{needs}
 use Rattle.records.proofs.words.read_word.Statement.{statement}
 use Rattle.records.proofs.words.read_word.Tie as tie
 
-with-points-requires : tie.Need-with-points-requires
-with-points-requires c κs = search needs
-
 read-body-requires : tie.Need-read-body-requires
 read-body-requires c κs = search needs
 
 read-held-requires : tie.Need-read-held-requires
-read-held-requires c κs = search needs
+read-held-requires c κs =
+    let at-read-body = c .before .before .before in
+    let start = at-read-body .before .before .before .before .before .before in
+    (possible-ready _ (start .pre .1) (start .pre .0), search needs)
 
 told-requires : tie.Need-told-requires
 told-requires c κs = search needs
@@ -30,9 +30,9 @@ returns c =
     let at-if1 = at-told .before .before in
     let at-read-held = at-if1 .before in
     let at-read-body = at-read-held .before .before .before .before in
-    let at-with-points = at-read-body .before .before in
+    let start = at-read-body .before .before .before .before .before .before in
     let h = heard-as (at-read-held .read-held .ensures) (body-front refl (at-read-body .read-body .ensures)) in
-    did-as (at-told .told .ensures) (word-refused _ h (at-if1 .if1 .taken) (at-with-points .with-points .ensures))
+    did-as (at-told .told .ensures) (word-refused _ h (at-if1 .if1 .taken) (held-ready (start .args .held) (start .pre .1)) ∙ word-ready (start .args .held) _ (start .pre .1))
 
 slice-aggregate-numbered-line : tie.Need-slice-aggregate-numbered-line
 slice-aggregate-numbered-line c = search needs
@@ -57,7 +57,7 @@ candidates-requires c κs =
     let at-if1 = at-numbered-line .before .before .before in
     let at-read-held = at-if1 .before in
     let at-read-body = at-read-held .before .before .before .before in
-    let start = at-read-body .before .before .before .before .before in
+    let start = at-read-body .before .before .before .before .before .before in
     let h = heard-as (at-read-held .read-held .ensures) (body-front refl (at-read-body .read-body .ensures)) in
     let l = h .accepted (at-if1 .if1 .left) in
     let n = at-numbered-line .numbered-line .ensures in (
@@ -67,7 +67,7 @@ candidates-requires c κs =
         h .list-long,
         l .room,
         l .few,
-        lines-room (at-read-held .read-held .result .found) (start .args .setting .k),
+        lines-room (at-read-held .read-held .result .found) (start .args .held .setting .k),
         n .0,
         wrote-len (n .1),
         start .pre,
@@ -84,20 +84,20 @@ returns-2 c =
     let at-if1 = at-numbered-line .before .before .before in
     let at-read-held = at-if1 .before in
     let at-read-body = at-read-held .before .before .before .before in
-    let at-with-points = at-read-body .before .before in
-    let start = at-with-points .before .before .before in
+    let start = at-read-body .before .before .before .before .before .before in
     let h = heard-as (at-read-held .read-held .ensures) (body-front refl (at-read-body .read-body .ensures)) in
     let l = h .accepted (at-if1 .if1 .left) in
     let n = at-numbered-line .numbered-line .ensures in
     let p = at-candidates .candidates .ensures in
-    word-heard _ h (at-if1 .if1 .left) (n .1) (p .1) (at-with-points .with-points .ensures)
-    (omega (arith, h .list-long, l .room, l .few, lines-room (at-read-held .read-held .result .found) (start .args .setting .k), n .0, p .0, start .pre))
+    did-as
+    (word-heard _ h (at-if1 .if1 .left) (n .1) (p .1) (clean-ready _ (start .pre .1) (start .pre .0))
+    (omega (arith, h .list-long, l .room, l .few, lines-room (at-read-held .read-held .result .found) (start .args .held .setting .k), n .0, p .0, start .pre)))
+    (word-ready _ _ (start .pre .1))
 
 pub read-word-spec : {M : Type 1} → statement M
 read-word-spec =
     tie.close
     (tie.spec
-    with-points-requires
     read-body-requires
     read-held-requires
     told-requires

@@ -1,10 +1,6 @@
 -- take_word: 12 where no points are held, before the body is read.
-use mathlib.Core.Path.{subst}
-use mathlib.Core.List.{[]}
-use lib.Dec.{T}
-use Rattle.records.specs.Holding.{possible}
 use Rattle.records.proofs.Turns.{did-as}
-use Rattle.records.proofs.Answered.{word-nothing, word-set, held-ready, word-ready}
+use Rattle.records.proofs.Answered.{word-nothing, word-set}
 use borrow.Author.Needs.{needs}
 use Rattle.records.proofs.words.take_word.Statement.{statement}
 use Rattle.records.proofs.words.take_word.Tie as tie
@@ -26,27 +22,27 @@ enum-told-3 c = search needs
 
 read-word-requires : tie.Need-read-word-requires
 read-word-requires c κs =
-    let start = c .before .before .before .before .before .before .before in
-    let e = c .before .enum-told3 .given .1 in
-    (subst (λ h. T (possible h)) (held-ready 0 (start .args .held) [] e) (start .pre .0), start .pre .1, start .pre .2, search needs)
+    let at-match = c .before in
+    let start = at-match .before .before .before .before in
+    (start .pre .0, at-match .enum-told3 .given .1, start .pre .1, start .pre .2, search needs)
 
 same-length : tie.Need-same-length
 same-length c = search needs
 
 returns : tie.Need-returns
-returns c = did-as (c .before .before .told .ensures) (word-nothing _ _ _ (c .before .before .before .before .enum-told .given .1))
+returns c = did-as (c .before .before .told .ensures) (word-nothing _ _ (c .before .before .before .before .enum-told .given .1))
 
 same-length-2 : tie.Need-same-length-2
 same-length-2 c = search needs
 
 returns-2 : tie.Need-returns-2
-returns-2 c = did-as (c .before .before .told2 .ensures) (word-set _ _ _ (c .before .before .before .before .enum-told2 .given .1))
+returns-2 c = did-as (c .before .before .told2 .ensures) (word-set _ _ (c .before .before .before .before .enum-told2 .given .1))
 
 same-length-3 : tie.Need-same-length-3
 same-length-3 c = search needs
 
 returns-3 : tie.Need-returns-3
-returns-3 c = did-as (c .before .before .read-word .ensures) (word-ready _ _ _ (c .before .before .before .before .enum-told3 .given .1))
+returns-3 c = c .before .before .read-word .ensures
 
 pub take-word-spec : {M : Type 1} → statement M
 take-word-spec =
