@@ -14,6 +14,12 @@ use Rattle.records.specs.declared.Held.{Held}
 use Rattle.records.specs.Holding.{held-of, holding, begun, possible, Clean, Sound}
 use Rattle.records.proofs.Refused.{points-long}
 
+pub turns-are : (i : ℕ) (held : Holding) → holding i held .turns ≡ i
+unfolding holding
+turns-are i nothing = refl
+turns-are i (set S) = refl
+turns-are i (ready S points) = refl
+
 pub none-kept : (i : ℕ) → held-of (holding i nothing) ≡ nothing
 unfolding holding
 none-kept i = refl

@@ -30,10 +30,10 @@ use Rattle.rules.specs.Patch.{
   whole,
   turn,
 }
-use Rattle.rules.proofs.Tests.{both, and}
+use Rattle.rules.proofs.Tests.{both, and, either}
 use Rattle.records.specs.declared.Done.{Done}
 use Rattle.records.specs.declared.Held.{Held as Record}
-use Rattle.records.specs.Holding.{held-of, begun, possible}
+use Rattle.records.specs.Holding.{held-of, begun, possible, Sound}
 use Rattle.records.specs.Did.{Did, told-turn, Stepped}
 use Rattle.records.proofs.Holding.{sound}
 use Rattle.records.proofs.Turns.{did-as, did-at}
@@ -94,7 +94,7 @@ module _ (i : ℕ) (held : Held) (b : List ℕ) where
       turn-other x y z = whole-other i j held (body b) x y z ∙ by-kind
 
 -- what is held after a record was accepted
-pub setting-possible : (i : ℕ) (numbers : List ℕ) → T (possible (setting-turn i numbers .held))
+setting-possible : (i : ℕ) (numbers : List ℕ) → T (possible (setting-turn i numbers .held))
 unfolding setting-turn possible
 setting-possible i numbers = go (eqb (setting-record-refusal (setting-in numbers)) 0) refl
   where
@@ -110,22 +110,34 @@ points-possible i S numbers h = go (eqb (points-refusal S numbers) 0) refl
     go true e = and (eqb (setting-record-refusal S) 0) _ h (subst T (sym e) tt)
     go false e = h
 
-pub come-possible : (i : ℕ) (held : Held) (numbers : List ℕ) → T (possible held) → T (possible (points-come i held numbers .held))
+come-possible : (i : ℕ) (held : Held) (numbers : List ℕ) → T (possible held) → T (possible (points-come i held numbers .held))
 unfolding points-come missing possible
 come-possible i nothing numbers h = h
 come-possible i (set S) numbers h = points-possible i S numbers h
 come-possible i (ready S points) numbers h = points-possible i S numbers (both (eqb (setting-record-refusal S) 0) _ h .0)
 
-pub word-possible : (i : ℕ) (held : Held) (numbers : List ℕ) → T (possible held) → T (possible (word-comes i held numbers .held))
+word-possible : (i : ℕ) (held : Held) (numbers : List ℕ) → T (possible held) → T (possible (word-comes i held numbers .held))
 unfolding word-comes missing word-turn
 word-possible i nothing numbers h = h
 word-possible i (set S) numbers h = h
 word-possible i (ready S points) numbers h = h
 
+pub turn-possible : (i : ℕ) (held : Held) (b : List ℕ) → T (possible held) → T (possible (turn i held b .held))
+unfolding turn whole
+turn-possible i held [] h = h
+turn-possible i held (x ∷ bytes) h =
+    let b = x ∷ bytes in
+    let Fine : Turn → Type 0 = λ t. T (possible (t .held)) in
+    either Fine _ _ (broken b) (λ _. h)
+    (λ _. either Fine _ _ (eqb (kind b) 1) (λ _. setting-possible i (body b))
+    (λ _. either Fine _ _ (eqb (kind b) 2) (λ _. come-possible i held (body b) h)
+    (λ _. either Fine _ _ (eqb (kind b) 3) (λ _. word-possible i held (body b) h) (λ _. h))))
+
 -- a call that did this turn, which was begun, did the record's
-pub stepped : {held h : Record} {t : Turn} {bytes d e : List ℕ} {r : Done} → h ≡ begun held → Did (h .turns) t d e r → T (possible (t .held)) →
+pub stepped : {held h : Record} {t : Turn} {bytes d e : List ℕ} {r : Done} → Sound held → h ≡ begun held → Did (h .turns) t d e r →
     t ≡ turn (h .turns) (held-of h) bytes → Stepped held bytes d e r
-stepped {held} {h} {t} {bytes} {d} {e} {r} is g p q =
+stepped {held} {h} {t} {bytes} {d} {e} {r} s is g q =
     let n : h .turns ≡ held .turns + 1 = ap (λ (h : Record). h .turns) is in
     let same : turn (h .turns) (held-of h) bytes ≡ turn (held .turns + 1) (held-of held) bytes = ap (λ (h : Record). turn (h .turns) (held-of h) bytes) is in
-    record { sound = sound _ _ (g .held) p; did = did-at (did-as g (q ∙ same)) n }
+    let did = did-at (did-as g (q ∙ same)) n in
+    record { sound = sound _ _ (did .held) (turn-possible (held .turns + 1) (held-of held) bytes (s .accepted)); did = did }

@@ -16,14 +16,8 @@ use Rattle.records.specs.declared.Held.{Held as Record}
 use Rattle.records.specs.declared.Stage.the-variants.{Nothing, Set, Ready}
 use Rattle.records.specs.Holding.{setting-of, held-of, with-array, holding}
 use Rattle.records.proofs.Refused.{points-long}
-use Rattle.records.proofs.Holding.{ready-kept, body-array}
+use Rattle.records.proofs.Holding.{turns-are, ready-kept, body-array}
 use Rattle.records.specs.Did.{Did, told-turn}
-
-turns-are : (i : ℕ) (held : Held) → holding i held .turns ≡ i
-unfolding holding
-turns-are i nothing = refl
-turns-are i (set S) = refl
-turns-are i (ready S points) = refl
 
 pub did-as : {i : ℕ} {t u : Turn} {d e : List ℕ} {r : Done} → Did i t d e r → t ≡ u → Did i u d e r
 did-as h q = rw q at h

@@ -16,7 +16,7 @@ pub record Call : Type 0 where
   pub done : Done
 
 -- by whether the program goes on
-abbrev Either : Bool → Type 0 → Type 0 → Type 0
+abbrev pub Either : Bool → Type 0 → Type 0 → Type 0
 Either true goes-on stops = goes-on
 Either false goes-on stops = stops
 

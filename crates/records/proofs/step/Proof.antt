@@ -11,9 +11,6 @@ use Rattle.records.proofs.Steps.{
   turn-points,
   turn-word,
   turn-other,
-  setting-possible,
-  come-possible,
-  word-possible,
   stepped,
 }
 use native.Mathlib.Omega.{arith}
@@ -29,7 +26,7 @@ returns c =
     let at-begin = c .before in
     let start = at-begin .before .before .before in
     let begun = sound-begun (start .pre .0) (at-begin .begin .ensures) in
-    stepped (at-begin .begin .ensures) (record { held = begun .clean; text = wrote-none _ _; more = refl; within = omega arith }) (begun .accepted)
+    stepped (start .pre .0) (at-begin .begin .ensures) (record { held = begun .clean; text = wrote-none _ _; more = refl; within = omega arith })
     (turn-end _ _ _ (c .if1 .taken))
 
 is-broken-requires : tie.Need-is-broken-requires
@@ -52,7 +49,7 @@ returns-2 c =
     let at-if1 = at-is-broken .before in
     let at-begin = at-if1 .before in
     let start = at-begin .before .before .before in
-    stepped (at-begin .begin .ensures) (at-told .told .ensures) (sound-begun (start .pre .0) (at-begin .begin .ensures) .accepted)
+    stepped (start .pre .0) (at-begin .begin .ensures) (at-told .told .ensures)
     (turn-broken _ _ _ (at-if1 .if1 .left) (sym (at-is-broken .is-broken .ensures) ∙ at-if2 .if2 .taken))
 
 pair-requires : tie.Need-pair-requires
@@ -85,7 +82,9 @@ returns-3 c =
     let at-if2 = at-pair .before in
     let at-is-broken = at-if2 .before in
     let at-if1 = at-is-broken .before in
-    stepped (at-if1 .before .begin .ensures) (at-take-setting .take-setting .ensures) (setting-possible _ _)
+    let at-begin = at-if1 .before in
+    let start = at-begin .before .before .before in
+    stepped (start .pre .0) (at-begin .begin .ensures) (at-take-setting .take-setting .ensures)
     (turn-setting _ _ _ (at-if1 .if1 .left) (sym (at-is-broken .is-broken .ensures) ∙ at-if2 .if2 .left) (at-pair .pair .ensures) (at-if3 .if3 .taken))
 
 take-points-requires : tie.Need-take-points-requires
@@ -110,8 +109,7 @@ returns-4 c =
     let at-if1 = at-is-broken .before in
     let at-begin = at-if1 .before in
     let start = at-begin .before .before .before in
-    stepped (at-begin .begin .ensures) (at-take-points .take-points .ensures)
-    (come-possible _ _ _ (sound-begun (start .pre .0) (at-begin .begin .ensures) .accepted))
+    stepped (start .pre .0) (at-begin .begin .ensures) (at-take-points .take-points .ensures)
     (turn-points _ _ _ (at-if1 .if1 .left) (sym (at-is-broken .is-broken .ensures) ∙ at-if2 .if2 .left) (at-pair .pair .ensures) (at-if4 .if4 .taken))
 
 take-word-requires : tie.Need-take-word-requires
@@ -136,8 +134,7 @@ returns-5 c =
     let at-if1 = at-is-broken .before in
     let at-begin = at-if1 .before in
     let start = at-begin .before .before .before in
-    stepped (at-begin .begin .ensures) (at-take-word .take-word .ensures)
-    (word-possible _ _ _ (sound-begun (start .pre .0) (at-begin .begin .ensures) .accepted))
+    stepped (start .pre .0) (at-begin .begin .ensures) (at-take-word .take-word .ensures)
     (turn-word _ _ _ (at-if1 .if1 .left) (sym (at-is-broken .is-broken .ensures) ∙ at-if2 .if2 .left) (at-pair .pair .ensures) (at-if5 .if5 .taken))
 
 told-requires-2 : tie.Need-told-requires-2
@@ -162,7 +159,7 @@ returns-6 c =
     let at-if1 = at-is-broken .before in
     let at-begin = at-if1 .before in
     let start = at-begin .before .before .before in
-    stepped (at-begin .begin .ensures) (at-told2 .told2 .ensures) (sound-begun (start .pre .0) (at-begin .begin .ensures) .accepted)
+    stepped (start .pre .0) (at-begin .begin .ensures) (at-told2 .told2 .ensures)
     (turn-other _ _ _ (at-if1 .if1 .left) (sym (at-is-broken .is-broken .ensures) ∙ at-if2 .if2 .left) (at-pair .pair .ensures)
     (at-if3 .if3 .left) (at-if4 .if4 .left) (at-if5 .if5 .left))
 
