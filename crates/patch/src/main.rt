@@ -1,13 +1,23 @@
 // The program for patch files: it reads the records from standard input, and prints the lines of each. A read or write that fails stops it and is told.
-ghost use Prim.Native.Nat.{_≤_};
-ghost use lib.Dec.{T};
-ghost use lib.ListN.{length};
-ghost use Rattle.records.specs.Holding.{held-of, possible};
+ghost use mathlib.Core.Path.{_≡_};
+ghost use mathlib.Core.Bool.{false};
+ghost use Prim.Native.Nat.{_+_, _^_, _<_, _≤_};
+ghost use lib.ListN.{length, take};
+ghost use Rattle.rules.specs.Patch.{nothing, size};
+ghost use Rattle.records.specs.Holding.{holding, Sound};
+ghost use Rattle.patch.specs.Run.{Turned, Run};
+
+// What a turn left: what is held then, whether the program goes on, and whether a read or a write failed.
+struct Left {
+    held: records::Held,
+    more: bool,
+    failed: bool,
+}
 
 // The bytes of the next record, as far as the input has them: none at its end.
 fn read_record(all: &mut [u8]) -> streams::Got
     requires { ⌜ 132 ≤ length (now all) ⌝ }
-    ensures { λ r. ⌜ r .count ≤ 132 ⌝ }
+    ensures { λ r. ⌜ (r .count ≤ 132) × (r .count ≤ size (take (r .count) (now (all .exit)))) ⌝ }
 {
     let words = b"patch: cannot read standard input";
     let first = streams::fill(&mut all[0..2], words);
@@ -17,54 +27,62 @@ fn read_record(all: &mut [u8]) -> streams::Got
     let rest = streams::fill(&mut all[2..end], words);
     streams::Got {
         count: begun + rest.count,
-        failed: first.failed || rest.failed,
+        failed: first.failed | rest.failed,
     }
 }
 
 // A record of which the input has these bytes: taken, its lines written.
-fn take(held: records::Held, number: u64, bytes: &[u8]) -> records::Done
-    requires { ⌜ T (possible (held-of held)) × (length (now bytes) ≤ 132) ⌝ }
-    ensures { λ r. ⌜ T (possible (held-of (r .held))) ⌝ }
+fn take(held: records::Held, bytes: &[u8]) -> Left
+    requires { ⌜ Sound held × (held .turns + 1 < 2 ^ 64) × (length (now bytes) ≤ 132) × (length (now bytes) ≤ size (now bytes)) ⌝ }
+    ensures { λ r. ⌜ Turned held r ⌝ }
 {
     let mut out = [0u8; 16384];
-    let mut done = records::step(held, number, bytes, &mut out);
+    let done = records::step(held, bytes, &mut out);
     let wrote = done.wrote;
-    if !streams::put(&out[..wrote], b"patch: cannot write to standard output") {
-        done.more = false;
+    let written = streams::put(&out[..wrote], b"patch: cannot write to standard output");
+    let next = done.held;
+    Left {
+        held: next,
+        more: done.more,
+        failed: !written,
     }
-    done
 }
 
-// One record. A read that fails is no end of the input, so nothing is said of what came before it of the record.
-fn turn(held: records::Held, number: u64) -> records::Done
-    requires { ⌜ T (possible (held-of held)) ⌝ }
-    ensures { λ r. ⌜ T (possible (held-of (r .held))) ⌝ }
+// One turn. A read that fails is no end of the input, so nothing is said of what came before it of the record.
+fn turn(held: records::Held) -> Left
+    requires { ⌜ Sound held × (held .turns + 1 < 2 ^ 64) ⌝ }
+    ensures { λ r. ⌜ (r .failed ≡ false → Turned held r) ⌝ }
 {
     let mut bytes = [0u8; 132];
     let got = read_record(&mut bytes);
     if got.failed {
-        return records::Done {
+        return Left {
             held,
-            wrote: 0,
             more: false,
+            failed: true,
         };
     }
     let n = got.count;
-    take(held, number, &bytes[..n])
+    take(held, &bytes[..n])
 }
 
-// Takes record after record until one stops it: the end of the input, refusal 10, or a call that fails.
-fn read_all() {
+// Takes turn after turn until one stops: the end of the input, refusal 10, or a call that fails.
+// The answer is whether a call failed, or no number was left, which cannot come about.
+fn read_all() -> bool
+    ensures { λ r. ⌜ (r ≡ false → Run (holding 0 nothing)) ⌝ }
+{
     let mut held = records::start();
-    let mut number: u64 = 0;
-    while number < u64::MAX {
-        number += 1;
-        let done = turn(held, number);
-        if !done.more {
-            return;
+    while !records::is_full(held) {
+        let left = turn(held);
+        if left.failed {
+            return true;
         }
-        held = done.held;
+        if !left.more {
+            return false;
+        }
+        held = left.held;
     }
+    true
 }
 
 fn main() {

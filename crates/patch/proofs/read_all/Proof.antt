@@ -1,43 +1,74 @@
--- read_all: the count of records ends the loop at the latest.
-use mathlib.Core.Path.{sym, subst}
-use Prim.Native.Nat.{_-_, _^_, _<_}
+-- read_all: every turn but the last goes on, and each adds one to the turns taken.
+use mathlib.Core.Path.{_≡_, sym, ap, subst, _∙_}
+use Prim.Native.Nat.{_+_, _-_, _^_, _<_}
 use lib.Dec.{T}
-use Rattle.records.specs.Holding.{held-of, possible}
+use borrow.Author.Tests.{not-true, not-false}
+use Rattle.rules.specs.Patch.{nothing}
+use Rattle.records.specs.Holding.{holding, possible, Sound}
+use Rattle.records.proofs.Holding.{turns-are, sound}
+use Rattle.records.specs.declared.Held.{Held}
+use Rattle.patch.specs.Run.{Run}
+use Rattle.patch.proofs.Runs.{last, before, not-full, turned-sound, turned-turns}
 use native.Mathlib.Omega.{arith}
 use borrow.Author.Needs.{needs}
 use Rattle.patch.proofs.read_all.Statement.{statement}
 use Rattle.patch.proofs.read_all.Tie as tie
 
 abbrev Inv-loop : tie.InvT-loop
-Inv-loop held₀ number₀ held number = (number < 2 ^ 64) × T (possible (held-of held))
+Inv-loop held₀ held = Sound held × (held .turns < 2 ^ 64) × (Run held → Run (holding 0 nothing))
 
 abbrev μ-loop : tie.MeasureT-loop
-μ-loop held₀ number₀ held number = 2 ^ 64 - number
+μ-loop held₀ held = 2 ^ 64 - held .turns
 
 start-requires : tie.Need-start-requires Inv-loop μ-loop
 start-requires c κs = search needs
 
 loop-holds : tie.Need-loop-holds Inv-loop μ-loop
 unfolding possible
-loop-holds c = (omega arith, subst (λ h. T (possible h)) (sym (c .start .ensures)) tt)
+loop-holds c =
+    let is = c .start .ensures in
+    let none : c .start .result .turns ≡ 0 = ap (λ (h : Held). h .turns) is ∙ turns-are 0 nothing in
+    (sound 0 nothing is tt, omega arith, subst Run is)
 
-add-number : tie.Need-add-number Inv-loop μ-loop
-add-number c = search needs
+is-full-requires : tie.Need-is-full-requires Inv-loop μ-loop
+is-full-requires c κs = search needs
 
 turn-requires : tie.Need-turn-requires Inv-loop μ-loop
-turn-requires c κs = search needs
+turn-requires c κs =
+    let at-full = c .before in
+    let inv = at-full .before .loop .inv in
+    (inv .0, not-full (at-full .is-full .ensures) (c .if1 .taken) (inv .1))
 
 returns : tie.Need-returns Inv-loop μ-loop
-returns c = search needs
-
-loop-less : tie.Need-loop-less Inv-loop μ-loop
-loop-less c = omega arith
-
-loop-again : tie.Need-loop-again Inv-loop μ-loop
-loop-again c = search needs
+returns c = λ e. absurd (subst T e tt)
 
 returns-2 : tie.Need-returns-2 Inv-loop μ-loop
-returns-2 c = search needs
+returns-2 c = λ e.
+    let at-if2 = c .before .before in
+    let at-turn = at-if2 .before in
+    let inv = at-turn .before .before .before .loop .inv in
+    inv .2 (last (at-turn .turn .ensures (at-if2 .if2 .left)) (not-true _ (c .if3 .taken)))
+
+loop-less : tie.Need-loop-less Inv-loop μ-loop
+loop-less c =
+    let at-turn = c .before .before .before .before in
+    let at-loop = at-turn .before .before .before in
+    let turned = at-turn .turn .ensures (c .before .before .before .if2 .left) in
+    omega (arith, turned-turns turned, at-loop .loop .inv .1)
+
+loop-again : tie.Need-loop-again Inv-loop μ-loop
+loop-again c =
+    let at-turn = c .before .before .before .before in
+    let at-full = at-turn .before .before in
+    let inv = at-full .before .loop .inv in
+    let turned = at-turn .turn .ensures (c .before .before .before .if2 .left) in (
+      turned-sound turned,
+      omega (arith, turned-turns turned, not-full (at-full .is-full .ensures) (at-turn .before .if1 .taken) (inv .1)),
+      λ run. inv .2 (before turned (not-false _ (c .before .if3 .left)) run),
+    )
+
+returns-3 : tie.Need-returns-3 Inv-loop μ-loop
+returns-3 c = λ e. absurd (subst T e tt)
 
 pub read-all-spec : {M : Type 1} → statement M
 read-all-spec =
@@ -47,9 +78,10 @@ read-all-spec =
     μ-loop
     start-requires
     loop-holds
-    add-number
+    is-full-requires
     turn-requires
     returns
+    returns-2
     loop-less
     loop-again
-    returns-2)
+    returns-3)

@@ -1,10 +1,12 @@
--- read_record: a record has at most 132 bytes.
+-- read_record: what is read is no more than the record, by its first two bytes.
 use mathlib.Core.Path.{sym}
 use mathlib.Core.List.{_++_}
+use Prim.Native.Nat.{_+_, _-_}
 use lib.ListN.{length-append}
 use lib.Seq.{length-take-le}
-use native.Mathlib.Omega.{arith}
 use borrow.Rule.Slice.PartMut.{postOf}
+use Rattle.patch.proofs.Runs.{record-cut}
+use native.Mathlib.Omega.{arith}
 use borrow.Author.Needs.{needs}
 use Rattle.patch.proofs.read_record.Statement.{statement}
 use Rattle.patch.proofs.read_record.Tie as tie
@@ -26,10 +28,10 @@ slice-reshare-prefix-want c = search needs
 
 slice-aggregate-want : tie.Need-slice-aggregate-want
 slice-aggregate-want c =
-    let at-fill = c .before .before .before in
-    let start = at-fill .before .before .before .before .before in
-    let whole = at-fill .fill .last .0 ++ postOf 0 2 (start .args .all .now) in
-    sym (length-take-le (at-fill .fill .result .count) whole (simp length-append (omega arith)))
+    let at-first = c .before .before .before in
+    let start = at-first .before .before .before .before .before in
+    let all = at-first .fill .last .0 ++ postOf 0 2 (start .args .all .now) in
+    sym (length-take-le (at-first .fill .result .count) all (simp length-append (omega arith)))
 
 want-requires : tie.Need-want-requires
 want-requires c κs = search needs
@@ -49,20 +51,25 @@ part-fill-end-2 c = search needs
 fill-requires-2 : tie.Need-fill-requires-2
 fill-requires-2 c κs = search needs
 
-add-t28 : tie.Need-add-t28
-add-t28 c = search needs
+add-t10 : tie.Need-add-t10
+add-t10 c = search needs
 
 same-length : tie.Need-same-length
 same-length c = search needs
 
 returns : tie.Need-returns
-returns c = search needs
-
-same-length-2 : tie.Need-same-length-2
-same-length-2 c = search needs
-
-returns-2 : tie.Need-returns-2
-returns-2 c = search needs
+returns c =
+    let at-rest = c .before .before .before .before .before in
+    let at-want = at-rest .before .before .before in
+    let at-first = at-want .before .before .before .before in
+    let start = at-first .before .before .before .before .before in
+    let all = at-first .fill .last .0 ++ postOf 0 2 (start .args .all .now) in
+    let want = at-want .want .result in
+    let rest = at-rest .fill2 .result .count in (
+      search needs,
+      record-cut all (at-rest .fill2 .last .0) (2 + want - 2) (at-first .fill .result .count) want rest (simp length-append (omega arith))
+      (search needs) (at-want .want .ensures .0) (search needs),
+    )
 
 pub read-record-spec : {M : Type 1} → statement M
 read-record-spec =
@@ -80,8 +87,6 @@ read-record-spec =
     part-fill-start-2
     part-fill-end-2
     fill-requires-2
-    add-t28
+    add-t10
     same-length
-    returns
-    same-length-2
-    returns-2)
+    returns)

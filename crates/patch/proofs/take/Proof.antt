@@ -1,5 +1,5 @@
--- take: what is written has room, and what is held stays possible.
-use mathlib.Core.Path.{sym}
+-- take: the call of step that took the bytes; what is written has room.
+use mathlib.Core.Path.{refl, sym}
 use lib.Seq.{length-take-le}
 use native.Mathlib.Omega.{arith}
 use borrow.Author.Needs.{needs}
@@ -17,7 +17,7 @@ array-share-prefix-out c = search needs
 
 slice-aggregate-put : tie.Need-slice-aggregate-put
 slice-aggregate-put c =
-    let s = c .before .before .step in sym (length-take-le (s .result .wrote) (s .last .1 .1 .1 .0) (omega (arith, s .ensures .1 .within)))
+    let s = c .before .before .step in sym (length-take-le (s .result .wrote) (s .last .1 .1 .0) (omega (arith, s .ensures .did .within)))
 
 slice-aggregate-put-2 : tie.Need-slice-aggregate-put-2
 slice-aggregate-put-2 c = search needs
@@ -26,10 +26,17 @@ put-requires : tie.Need-put-requires
 put-requires c κs = search needs
 
 returns : tie.Need-returns
-returns c = search needs
-
-returns-2 : tie.Need-returns-2
-returns-2 c = search needs
+returns c =
+    let at-step = c .before .before .before .before .before in
+    let start = at-step .before .before .before in
+    record {
+      bytes = start .args .bytes .now;
+      call = record { before = _; after = _; done = at-step .step .result };
+      cut = start .pre .3;
+      stepped = at-step .step .ensures;
+      is-held = refl;
+      is-more = refl;
+    }
 
 pub take-spec : {M : Type 1} → statement M
 take-spec =
@@ -41,5 +48,4 @@ take-spec =
     slice-aggregate-put
     slice-aggregate-put-2
     put-requires
-    returns
-    returns-2)
+    returns)

@@ -1,5 +1,6 @@
--- turn: a record has at most 132 bytes, and what is held stays possible.
-use mathlib.Core.Path.{sym}
+-- turn: a failed read says nothing, and any other is taken.
+use mathlib.Core.Path.{sym, subst}
+use lib.Dec.{T}
 use lib.Seq.{length-take-le}
 use native.Mathlib.Omega.{arith}
 use borrow.Author.Needs.{needs}
@@ -13,23 +14,25 @@ read-record-requires : tie.Need-read-record-requires
 read-record-requires c κs = search needs
 
 returns : tie.Need-returns
-returns c = search needs
+returns c = λ e. absurd (subst T e tt)
 
 array-share-prefix-bytes : tie.Need-array-share-prefix-bytes
 array-share-prefix-bytes c = search needs
 
 slice-aggregate-take : tie.Need-slice-aggregate-take
 slice-aggregate-take c =
-    let at-read = c .before .before .before .read-record in sym (length-take-le (at-read .result .count) (at-read .last .0) (omega arith))
+    let read = c .before .before .before .read-record in sym (length-take-le (read .result .count) (read .last .0) (omega arith))
 
 take-requires : tie.Need-take-requires
 take-requires c κs =
-    let at-read = c .before .before .before .read-record in
-    let start = c .before .before .before .before .before in
-    (start .pre, omega (arith, length-take-le (at-read .result .count) (at-read .last .0) (omega arith)))
+    let at-read = c .before .before .before in
+    let start = at-read .before .before in
+    let read = at-read .read-record in
+    let long = length-take-le (read .result .count) (read .last .0) (omega arith) in
+    (start .pre .0, start .pre .1, omega (arith, long), omega (arith, long, read .ensures .1))
 
 returns-2 : tie.Need-returns-2
-returns-2 c = search needs
+returns-2 c = λ e. c .take .ensures
 
 pub turn-spec : {M : Type 1} → statement M
 turn-spec =

@@ -1,0 +1,108 @@
+-- A run grows turn by turn: a turn that goes on took a whole record, and what is read behind its first two bytes does not change its size.
+use mathlib.Core.Path.{_≡_, refl, sym, ap, _∙_, subst}
+use mathlib.Core.Logic.{_⊎_, inl, inr}
+use mathlib.Core.Bool.{Bool, true, false, not, cond}
+use mathlib.Core.List.{List, [], _∷_, _++_}
+use Prim.Native.Nat.{ℕ, _+_, _-_, _^_, _<_, _≤_}
+use Rattle.buffers.proofs.Change.{lt-or-ge}
+use native.Mathlib.Omega.{arith}
+use native.Mathlib.Decide.{ℕ-discrete}
+use lib.Dec.{T, eqb}
+use lib.ListN.{length, take, drop}
+use lib.Seq.{take-all, take-at, drop-at, length-take-le, take-append-add}
+use borrow.Author.Tests.{not-true, eq-eqb}
+use borrow.Rule.Slice.PartMut.{postOf, putMid}
+use Rattle.rules.specs.Patch.{Held as Holding, pairs, length-of, length-fits, size, broken, turn}
+use Rattle.rules.proofs.Tests.{either}
+use Rattle.parsing.proofs.Shape.{none-stated, too-short, size-unfit, size-fits, whole-long}
+use Rattle.records.specs.declared.Held.{Held}
+use Rattle.records.specs.Holding.{Sound}
+use Rattle.records.proofs.Holding.{turns-are}
+use Rattle.records.specs.Did.{Stepped}
+use Rattle.records.specs.Taken.{Call, Either, Taken}
+use Rattle.patch.specs.declared.Left.{Left}
+use Rattle.patch.specs.Run.{Turned, Run}
+
+-- the first two bytes decide
+size-front : (b rest : List ℕ) → 2 ≤ length b → size (b ++ rest) ≡ size b
+unfolding size length-of pairs
+size-front [] rest l = absurd (omega arith)
+size-front (x ∷ []) rest l = absurd (omega arith)
+size-front (x ∷ y ∷ b) rest l = refl
+
+most-size : (b : List ℕ) → size b ≤ 2 + length-of b
+unfolding size
+most-size b = either (λ n. n ≤ 2 + length-of b) (2 + length-of b) 2 (length-fits (length-of b)) (λ _. omega arith) (λ _. omega arith)
+
+two-size : (b : List ℕ) → 2 ≤ size b
+unfolding size
+two-size b = either (λ n. 2 ≤ n) (2 + length-of b) 2 (length-fits (length-of b)) (λ _. omega arith) (λ _. omega arith)
+
+-- what was read is no more than the record, by its first two bytes
+module _ (all part : List ℕ) (n begun want rest : ℕ) where
+  pub record-cut : 2 ≤ length all → begun ≤ 2 → 2 + want ≡ size (take begun all) → rest ≤ want → begun + rest ≤ size (take (begun + rest) (putMid 2 n all part))
+  record-cut l b w r = go (lt-or-ge begun 2)
+    where
+      go : (begun < 2) ⊎ (2 ≤ begun) → begun + rest ≤ size (take (begun + rest) (putMid 2 n all part))
+      go (inl few) =
+          let short : length (take begun all) < 2 = omega (arith, length-take-le begun all (omega arith)) in
+          let none = size-unfit (take begun all) 0 (none-stated (take begun all) short) (too-short 0 (omega arith)) in
+          omega (arith, two-size (take (begun + rest) (putMid 2 n all part)))
+      go (inr both) =
+          let is : begun ≡ 2 = omega arith in
+          let two : length (take 2 all) ≡ 2 = length-take-le 2 all l in
+          let front = take-append-add (take 2 all) (part ++ postOf 2 n all) rest in
+          let same : take (begun + rest) (putMid 2 n all part) ≡ take 2 all ++ take rest (part ++ postOf 2 n all) = ap (λ k. take (k + rest) (putMid 2 n all part)) (is ∙ sym two) ∙ front in
+          let decides = size-front (take 2 all) (take rest (part ++ postOf 2 n all)) (omega arith) in
+          omega (arith, ap size same, decides, ap (λ k. size (take k all)) is)
+
+-- where no number is the last, one more fits
+pub not-full : {full : Bool} {n : ℕ} → full ≡ eqb n (2 ^ 64 - 1) → not full ≡ true → n < 2 ^ 64 → n + 1 < 2 ^ 64
+not-full {full} {n} is left l = go (ℕ-discrete n (2 ^ 64 - 1))
+  where
+    go : Dec (n ≡ 2 ^ 64 - 1) → n + 1 < 2 ^ 64
+    go (yes e) = absurd (subst T (sym (eq-eqb n (2 ^ 64 - 1) e) ∙ sym is ∙ not-true full left) tt)
+    go (no h) = omega arith
+
+-- a turn that goes on has a whole record
+goes-on : (i : ℕ) (held : Holding) (b : List ℕ) → turn i held b .more ≡ true → broken b ≡ false
+unfolding turn
+goes-on i held [] m = absurd (subst T (sym m) tt)
+goes-on i held (x ∷ bytes) m = go (broken (x ∷ bytes)) refl
+  where
+    go : (t : Bool) → broken (x ∷ bytes) ≡ t → broken (x ∷ bytes) ≡ false
+    go true e = absurd (subst T (sym (rw e at m)) tt)
+    go false e = e
+
+module _ {held : Held} {l : Left} (t : Turned held l) where
+  pub turned-sound : Sound (l .held)
+  turned-sound = rw (t .is-held) (t .stepped .sound)
+
+  pub turned-turns : l .held .turns ≡ held .turns + 1
+  turned-turns = ap (λ (h : Held). h .turns) (t .is-held ∙ t .stepped .did .held) ∙ turns-are (held .turns + 1) _
+
+  pub last : l .more ≡ false → Run held
+  last m = record {
+    input = t .bytes;
+    calls = t .call ∷ [];
+    taken = (rw (take-all (size (t .bytes)) (t .bytes) (t .cut)) (t .stepped), rw (sym (t .is-more) ∙ m) refl);
+  }
+
+  pub before : l .more ≡ true → Run (l .held) → Run held
+  before m run = record {
+    input = t .bytes ++ run .input;
+    calls = t .call ∷ run .calls;
+    taken = (rw taken (t .stepped), rw (sym (t .is-more) ∙ m) (rw (left, ← t .is-held) (run .taken)));
+  }
+    where
+      whole : (2 ≤ length-of (t .bytes)) × (2 + length-of (t .bytes) ≤ length (t .bytes))
+      whole = whole-long (t .bytes) (goes-on _ _ (t .bytes) (sym (t .stepped .did .more) ∙ sym (t .is-more) ∙ m))
+
+      long : length (t .bytes) ≡ size (t .bytes ++ run .input)
+      long = omega (arith, whole, t .cut, most-size (t .bytes), size-front (t .bytes) (run .input) (omega (arith, whole)))
+
+      taken : take (size (t .bytes ++ run .input)) (t .bytes ++ run .input) ≡ t .bytes
+      taken = take-at (t .bytes) (run .input) _ long
+
+      left : drop (size (t .bytes ++ run .input)) (t .bytes ++ run .input) ≡ run .input
+      left = drop-at (t .bytes) (run .input) _ long
