@@ -12,14 +12,15 @@ use lib.ListN.{length, take, drop}
 use lib.Seq.{take-all, take-at, drop-at, length-take-le, take-append-add}
 use borrow.Author.Tests.{not-true, eq-eqb}
 use borrow.Rule.Slice.PartMut.{postOf, putMid}
-use Rattle.rules.specs.Patch.{Held as Holding, pairs, length-of, length-fits, size, broken, turn}
+use Rattle.rules.specs.Patch.{Held as Holding, nothing, pairs, length-of, length-fits, size, broken, turn, printed}
 use Rattle.rules.proofs.Tests.{either}
 use Rattle.parsing.proofs.Shape.{none-stated, too-short, size-unfit, size-fits, whole-long}
 use Rattle.records.specs.declared.Held.{Held}
-use Rattle.records.specs.Holding.{Sound}
+use Rattle.records.specs.Holding.{holding, Sound}
 use Rattle.records.proofs.Holding.{turns-are}
+use Rattle.records.proofs.Printed.{taken-printed}
 use Rattle.records.specs.Did.{Stepped}
-use Rattle.records.specs.Taken.{Call, Either, Taken}
+use Rattle.records.specs.Taken.{written}
 use Rattle.patch.specs.declared.Left.{Left}
 use Rattle.patch.specs.Run.{Turned, Run}
 
@@ -106,3 +107,7 @@ module _ {held : Held} {l : Left} (t : Turned held l) where
 
       left : drop (size (t .bytes ++ run .input)) (t .bytes ++ run .input) ≡ run .input
       left = drop-at (t .bytes) (run .input) _ long
+
+-- so the bytes that its calls wrote are what is printed for the bytes that it read
+pub run-printed : (run : Run (holding 0 nothing)) → written (run .calls) ≡ printed (run .input)
+run-printed run = taken-printed (holding 0 nothing) (run .input) (run .calls) refl (run .taken)

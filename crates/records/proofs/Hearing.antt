@@ -23,7 +23,7 @@ use Rattle.demands.proofs.Listing.{list-readings}
 use Rattle.reader.proofs.Lowest.{named, first-accept}
 use Rattle.buffers.proofs.Change.{lt-or-ge}
 use Rattle.records.specs.Holding.{possible}
-use Rattle.records.specs.Heard.{Listed, Heard, messages-of}
+use Rattle.records.specs.Heard.{Standing, Heard, messages-of}
 use Rattle.records.proofs.Refused.{call-refuses, too-much-work}
 use Rattle.records.proofs.Lines.{Long, rows-flat, flat-long, readings-long}
 
@@ -34,8 +34,8 @@ three true true false z = absurd (omega arith)
 three true false c z = absurd (omega arith)
 three false b c z = absurd (omega arith)
 
--- what is held where points are held
-pub record Kept (S : Setting) (points : List ℕ) : Type 0 where
+-- what is known where points are held
+pub record Known (S : Setting) (points : List ℕ) : Type 0 where
   pub refused : setting-refusal S ≡ 0
   pub setting : Accepted S
   pub work : R S ≤ 24000
@@ -43,9 +43,9 @@ pub record Kept (S : Setting) (points : List ℕ) : Type 0 where
   pub points-under : under (S .p) points ≡ true
   pub apart : distinct eqb points ≡ true
 
-pub kept : (S : Setting) (points : List ℕ) → T (possible (ready S points)) → Kept S points
+pub known : (S : Setting) (points : List ℕ) → T (possible (ready S points)) → Known S points
 unfolding possible points-refusal
-kept S points h =
+known S points h =
     let t = both (eqb (setting-record-refusal S) 0) (eqb (points-refusal S points) 0) h in
     let z = eqb→eq (setting-record-refusal S) 0 (t .0) in
     let q = three (long (S .n) points) (under (S .p) points) (distinct eqb points) (eqb→eq (points-refusal S points) 0 (t .1)) in
@@ -60,7 +60,7 @@ kept S points h =
     room r z (inl l) = absurd (omega (arith, too-much-work S r l))
     room r z (inr l) = l
 
-module _ (S : Setting) (points word : List ℕ) (K : Kept S points) where
+module _ (S : Setting) (points word : List ℕ) (K : Known S points) where
   rooms : ltb 1536 (ℓ S * S .k) || ltb 6400 (curve-length S) || ltb 24000 (R S) ≡ false
   rooms = simp (le-ltb 1536 (ℓ S * S .k) (K .setting .output-most), le-ltb 6400 (curve-length S) (K .setting .curve-most), le-ltb 24000 (R S) (K .work))
 
@@ -138,7 +138,7 @@ module _ (S : Setting) (points word : List ℕ) (K : Kept S points) where
       unfolding good
       how-many = ap (λ (x : Reading). x .found) own
 
-      pub listed : Listed S (messages-of S points word) (o .output) (o .found)
+      pub listed : Standing S (messages-of S points word) (o .output) (o .found)
       listed = let q : o .found * S .k ≤ length (o .output) = room in record {
         count = how-many ∙ ap length read-list;
         rows-are = ap (λ (n : ℕ). rows (S .k) n (o .output)) how-many ∙ ap (λ (x : List ℕ). rows (S .k) (length list) x) in-front

@@ -49,7 +49,7 @@ taken-from : (f : ℕ) (held : Held) (input : List ℕ) (calls : List Call) → 
 unfolding written printed-from flatMap
 taken-from zero held input calls s l t = absurd (omega arith)
 taken-from (suc f) held input [] s l t = absurd t
-taken-from (suc f) held input (c ∷ calls) s l t = ap₂ _++_ (text-of (did .text) (did .within)) 
+taken-from (suc f) held input (c ∷ calls) s l t = ap₂ _++_ (text-of (did .text) (did .within))
     (behind (λ less u. taken-from f (c .done .held) rest calls (t .0 .sound) less u) (c .done .more) refl (t .1))
   where
     i : ℕ

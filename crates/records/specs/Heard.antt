@@ -14,7 +14,7 @@ abbrev pub messages-of : Setting → List ℕ → List ℕ → List (List ℕ)
 messages-of S points word = readings (ops (S .p)) (S .k) (S .n - S .τ) points word
 
 -- found messages stand in the list, one after the other
-pub record Listed (S : Setting) (messages : List (List ℕ)) (list : List ℕ) (found : ℕ) : Type 0 where
+pub record Standing (S : Setting) (messages : List (List ℕ)) (list : List ℕ) (found : ℕ) : Type 0 where
   pub count : found ≡ length messages
   pub rows-are : rows (S .k) found list ≡ messages
   pub room : found * S .k ≤ length list
@@ -24,4 +24,4 @@ pub record Listed (S : Setting) (messages : List (List ℕ)) (list : List ℕ) (
 pub record Heard (S : Setting) (points word list : List ℕ) (refusal found : ℕ) : Type 0 where
   pub list-long : length list ≡ 1536
   pub is-refusal : refusal ≡ word-refusal S word
-  pub accepted : refusal ≡ 0 → Listed S (messages-of S points word) list found
+  pub accepted : refusal ≡ 0 → Standing S (messages-of S points word) list found

@@ -68,7 +68,7 @@ returns c =
     let rest = at-rest .fill2 .result .count in (
       search needs,
       record-cut all (at-rest .fill2 .last .0) (2 + want - 2) (at-first .fill .result .count) want rest (simp length-append (omega arith))
-      (search needs) (at-want .want .ensures .0) (search needs),
+          (search needs) (at-want .want .ensures .0) (search needs),
     )
 
 pub read-record-spec : {M : Type 1} → statement M

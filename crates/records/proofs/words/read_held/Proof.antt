@@ -4,11 +4,27 @@ use Prim.Native.Nat.{ℕ}
 use lib.ListN.{take, length-replicate}
 use lib.Seq.{length-take-le}
 use Rattle.records.specs.Holding.{setting-of}
-use Rattle.records.proofs.Hearing.{kept, heard, found-few}
+use Rattle.records.proofs.Hearing.{Known, known, heard, found-few}
 use native.Mathlib.Omega.{arith}
 use borrow.Author.Needs.{needs}
 use Rattle.records.proofs.words.read_held.Statement.{statement}
 use Rattle.records.proofs.words.read_held.Tie as tie
+
+-- the places that answers look back to: the start from the call's first slice, and that slice from the call
+abbrev entry : tie.After-read-arg → tie.Start
+entry c =
+    let at-heard = c .before .before .before .before .before in
+    at-heard .before .before .before
+
+abbrev lent : tie.After-read → tie.After-read-arg3
+lent c = c .before .before .before
+
+abbrev begun : tie.After-read → tie.Start
+begun c = entry (lent c .before .before)
+
+-- what is known of the points that are held
+known-held : (c : tie.Start) → Known (setting-of (c .args .s)) (take (c .args .s .n) (c .args .points .now))
+known-held c = known (setting-of (c .args .s)) (take (c .args .s .n) (c .args .points .now)) (c .pre .0)
 
 cast-n : tie.Need-cast-n
 cast-n c = search needs
@@ -26,15 +42,10 @@ cast-read-4 : tie.Need-cast-read-4
 cast-read-4 c = search needs
 
 slice-aggregate-read : tie.Need-slice-aggregate-read
-slice-aggregate-read c =
-    let start = c .before .before .before .before .before .before .before .before in
-    let K = kept (setting-of (start .args .s)) (take (start .args .s .n) (start .args .points .now)) (start .pre .0) in
-    sym (length-take-le _ _ (omega (arith, K .setting .passed .ranged .code .n-most)))
+slice-aggregate-read c = sym (length-take-le _ _ (omega (arith, known-held (entry c) .setting .passed .ranged .code .n-most)))
 
 slice-aggregate-read-2 : tie.Need-slice-aggregate-read-2
-slice-aggregate-read-2 c =
-    let start = c .before .before .before .before .before .before .before .before .before in
-    sym (length-take-le _ _ (omega (arith, start .pre .1)))
+slice-aggregate-read-2 c = sym (length-take-le _ _ (omega (arith, entry (c .before) .pre .1)))
 
 slice-aggregate-read-3 : tie.Need-slice-aggregate-read-3
 slice-aggregate-read-3 c = search needs
@@ -47,21 +58,17 @@ read-requires c κs = search needs
 
 cast-t28 : tie.Need-cast-t28
 cast-t28 c =
-    let start = c .before .before .before .before .before .before .before .before .before .before .before .before .before .before .before .before in
-    let long = c .before .before .before .before .before .before .read-arg3 .given in
-    let K = kept (setting-of (start .args .s)) (take (start .args .s .n) (start .args .points .now)) (start .pre .0) in
-    let r = c .before .before .before .read in
-    let f = found-few _ _ _ K _ _ _ _ (r .ensures) (omega (arith, long)) (length-replicate {A = ℕ} 6400 0)
+    let at-read = c .before .before .before in
+    let long = lent at-read .read-arg3 .given in
+    let f = found-few _ _ _ (known-held (begun at-read)) _ _ _ _ (at-read .read .ensures) (omega (arith, long)) (length-replicate {A = ℕ} 6400 0)
     (length-replicate {A = ℕ} 24000 0) in
     search (needs, long)
 
 returns : tie.Need-returns
 returns c =
-    let start = c .before .before .before .before .before .before .before .before .before .before .before .before .before .before .before .before in
-    let long = c .before .before .before .before .before .before .read-arg3 .given in
-    let K = kept (setting-of (start .args .s)) (take (start .args .s .n) (start .args .points .now)) (start .pre .0) in
-    let r = c .before .before .before .read in
-    heard _ _ _ K _ _ _ _ (r .ensures) (omega (arith, long)) (length-replicate {A = ℕ} 6400 0)
+    let at-read = c .before .before .before in
+    let long = lent at-read .read-arg3 .given in
+    heard _ _ _ (known-held (begun at-read)) _ _ _ _ (at-read .read .ensures) (omega (arith, long)) (length-replicate {A = ℕ} 6400 0)
     (length-replicate {A = ℕ} 24000 0) (omega (arith, long))
 
 pub read-held-spec : {M : Type 1} → statement M

@@ -9,13 +9,24 @@ use borrow.Author.Needs.{needs}
 use Rattle.records.proofs.words.read_word.Statement.{statement}
 use Rattle.records.proofs.words.read_word.Tie as tie
 
+-- the places that answers look back to: the start from the body, and the answer of read_held from what came of it
+abbrev entry : tie.After-read-body → tie.Start
+entry c =
+    let at-setting = c .before .before .before in
+    at-setting .before .before .before
+
+abbrev read-from : tie.After-read-held → tie.After-read-body
+read-from c = c .before .before .before .before
+
+abbrev accepted : tie.After-numbered-line → tie.Else1
+accepted c = c .before .before .before
+
 read-body-requires : tie.Need-read-body-requires
 read-body-requires c κs = search needs
 
 read-held-requires : tie.Need-read-held-requires
 read-held-requires c κs =
-    let at-read-body = c .before .before .before in
-    let start = at-read-body .before .before .before .before .before .before in
+    let start = entry (c .before .before .before) in
     (possible-ready _ (start .pre .1) (start .pre .0), search needs)
 
 told-requires : tie.Need-told-requires
@@ -29,8 +40,8 @@ returns c =
     let at-told = c .before .before in
     let at-if1 = at-told .before .before in
     let at-read-held = at-if1 .before in
-    let at-read-body = at-read-held .before .before .before .before in
-    let start = at-read-body .before .before .before .before .before .before in
+    let at-read-body = read-from at-read-held in
+    let start = entry at-read-body in
     let h = heard-as (at-read-held .read-held .ensures) (body-front refl (at-read-body .read-body .ensures)) in
     did-as (at-told .told .ensures) (word-refused _ h (at-if1 .if1 .taken) (held-ready (start .args .held) (start .pre .1)) ∙ word-ready (start .args .held) _ (start .pre .1))
 
@@ -41,9 +52,7 @@ numbered-line-requires : tie.Need-numbered-line-requires
 numbered-line-requires c κs = search needs
 
 slice-aggregate-candidates : tie.Need-slice-aggregate-candidates
-slice-aggregate-candidates c =
-    let at-read-held = c .before .before .before .before .before .before .before in
-    sym (at-read-held .read-held .ensures .list-long)
+slice-aggregate-candidates c = sym (accepted (c .before .before .before) .before .read-held .ensures .list-long)
 
 cast-candidates : tie.Need-cast-candidates
 cast-candidates c = search needs
@@ -54,10 +63,10 @@ cast-candidates-2 c = search needs
 candidates-requires : tie.Need-candidates-requires
 candidates-requires c κs =
     let at-numbered-line = c .before .before .before .before .before in
-    let at-if1 = at-numbered-line .before .before .before in
+    let at-if1 = accepted at-numbered-line in
     let at-read-held = at-if1 .before in
-    let at-read-body = at-read-held .before .before .before .before in
-    let start = at-read-body .before .before .before .before .before .before in
+    let at-read-body = read-from at-read-held in
+    let start = entry at-read-body in
     let h = heard-as (at-read-held .read-held .ensures) (body-front refl (at-read-body .read-body .ensures)) in
     let l = h .accepted (at-if1 .if1 .left) in
     let n = at-numbered-line .numbered-line .ensures in (
@@ -80,11 +89,12 @@ same-length-2 c = search needs
 returns-2 : tie.Need-returns-2
 returns-2 c =
     let at-candidates = c .before .before in
-    let at-numbered-line = at-candidates .before .before .before .before .before .before in
-    let at-if1 = at-numbered-line .before .before .before in
+    let at-list = at-candidates .before .before .before in
+    let at-numbered-line = at-list .before .before .before in
+    let at-if1 = accepted at-numbered-line in
     let at-read-held = at-if1 .before in
-    let at-read-body = at-read-held .before .before .before .before in
-    let start = at-read-body .before .before .before .before .before .before in
+    let at-read-body = read-from at-read-held in
+    let start = entry at-read-body in
     let h = heard-as (at-read-held .read-held .ensures) (body-front refl (at-read-body .read-body .ensures)) in
     let l = h .accepted (at-if1 .if1 .left) in
     let n = at-numbered-line .numbered-line .ensures in
