@@ -14,7 +14,7 @@ use Rattle.records.specs.declared.Done.{Done}
 use Rattle.records.specs.declared.Held.{Held as Record}
 use Rattle.records.specs.declared.Stage.the-variants.{Nothing, Set, Ready}
 use Rattle.records.specs.Holding.{setting-of, held-of}
-use Rattle.records.proofs.Refused.{points-long}
+use Rattle.records.proofs.Refused.{points-given}
 use Rattle.records.specs.Did.{Did, told-turn}
 
 pub did-as : {t u : Turn} {d e : List ℕ} {r : Done} → Did t d e r → t ≡ u → Did u d e r
@@ -46,7 +46,7 @@ module _ (i : ℕ) (S : Setting) (numbers : List ℕ) {r : ℕ} (e : r ≡ point
   unfolding points-turn
   points-taken z {m} array c f h =
       let q : points-refusal S numbers ≡ 0 = sym e ∙ z in
-      let own : held ≡ ready S numbers = h ∙ ap (λ k. ready S (take k array)) (sym (points-long S numbers q) ∙ sym c) ∙ ap (ready S) f in
+      let own : held ≡ ready S numbers = h ∙ ap (λ k. ready S (take k array)) (sym (points-given S numbers q .points-long) ∙ sym c) ∙ ap (ready S) f in
       rw (q, own)
 
   pub points-refused : ¬ (r ≡ 0) → held ≡ set S → told-turn held i 2 r true ≡ points-turn i S numbers
