@@ -55,7 +55,8 @@ module _ {S : Setting} {t : Terms} (h : Settled S t) where
   list-fits room = rw (h .is-ℓ) (omega (arith, h .is-list))
 
   module _ {points word : List ℕ} where
-    pub worded : {others : List Run} → Given (S .p) (S .n) points ((S .n of word) ∷ others) → Worded (t .q) (S .k) (t .w) (t .l) (t .s) points word
+    pub worded : {others : List Run} → Given (S .p) (S .n) points ((S .n of word) ∷ others)
+        → Worded (t .q) (S .k) (t .w) (t .l) (t .s) points word
     worded g = rw (h .is-p, h .is-s, h .is-W, h .is-ℓ) (record {
       shape = shaped (h .accepted);
       small = h .accepted .passed .ranged .s-most;
