@@ -11,12 +11,11 @@ use borrow.Rule.Slice.PartMut.{putMid}
 use Rattle.rules.specs.Field.{ops, modulus}
 use Rattle.rules.specs.Setting.{code-ranges}
 use Rattle.rules.specs.Code.{encode}
-use Rattle.rules.specs.Refusal.{_if_, lowest, encode-refusal}
+use Rattle.rules.specs.Refusal.{_if_, _of_, lowest, point-causes, encode-refusal}
 use Rattle.rules.specs.Outcome.{encode-call}
 use Rattle.reader.specs.Calls.{encoded}
-use Rattle.reader.specs.Causes.{pair-causes}
 use Rattle.reader.proofs.Lowest.{none-first, none-parts}
-use Rattle.reader.proofs.Pair.{Pair, pair, pair-named}
+use Rattle.reader.proofs.Given.{Given, given, point-named}
 use Rattle.reader.proofs.Front.{over-front}
 use Rattle.reader.proofs.Patch.{length-patch}
 
@@ -31,26 +30,26 @@ module _ (p n k : ℕ) (points message : List ℕ) (room : ℕ) where
 
   -- the causes behind the first two
   pub encode-rest : modulus p ≡ true → code-ranges n k ≡ true
-      → lowest (pair-causes p n points k message ++ (8 if ltb room n) ∷ []) ≡ encode-refusal p n k points message room
-  unfolding encode-refusal lowest pair-causes
+      → lowest (point-causes p n points ((k of message) ∷ []) ++ (8 if ltb room n) ∷ []) ≡ encode-refusal p n k points message room
+  unfolding encode-refusal lowest
   encode-rest a b = simp (a, b)
 
   -- what an accepted call may assume
   pub record Encodes : Type 0 where
     pub field : T (modulus p)
-    pub given : Pair p n points k message
+    pub given : Given p n points ((k of message) ∷ [])
     pub fits : n ≤ room
 
   pub encodes : encode-refusal p n k points message room ≡ 0 → Encodes
-  unfolding encode-refusal pair-causes
+  unfolding encode-refusal
   encodes z =
       let first = none-first 1 (not (modulus p)) _ z (λ e. omega arith) in
       let second = none-first 2 (not (code-ranges n k)) _ (first .1) (λ e. omega arith) in
-      let parts = none-parts (pair-causes p n points k message) ((8 if ltb room n) ∷ []) (pair-named p n points k message) (second .1) in
+      let parts = none-parts _ ((8 if ltb room n) ∷ []) (point-named p n points _) (second .1) in
       let last = none-first 8 (ltb room n) [] (parts .1) (λ e. omega arith) in
       record {
         field = rw (not-false (modulus p) (first .0)) tt;
-        given = pair p n points k message (parts .0);
+        given = given p n points _ (parts .0);
         fits = ltb-false room n (last .0);
       }
 

@@ -8,23 +8,22 @@ use lib.ListN.{length}
 use borrow.Author.Tests.{ne-eqb}
 use borrow.Rule.Slice.PartMut.{midOf, putMid}
 use Rattle.rules.specs.Setting.{Setting}
-use Rattle.rules.specs.Refusal.{_if_, lowest, word-causes, find-refusal}
+use Rattle.rules.specs.Refusal.{_if_, _of_, lowest, point-causes, word-causes, find-refusal}
 use Rattle.rules.specs.Outcome.{find-call, Finds}
 use Rattle.reader.specs.declared.Outcome.{Outcome}
 use Rattle.reader.specs.declared.terms.Terms.{Terms}
 use Rattle.reader.specs.Terms.{Settled, Posed}
 use Rattle.reader.specs.Calls.{finding, nothing}
-use Rattle.reader.specs.Causes.{pair-causes}
 use Rattle.reader.specs.Word.{Findable, Passed}
 use Rattle.reader.proofs.First.{setting-refuses, others-decide}
-use Rattle.reader.proofs.Pair.{Pair, pair, pair-named}
+use Rattle.reader.proofs.Given.{Given, given, point-named}
 use Rattle.reader.proofs.Rooms.{two-rooms, not-eight}
 use Rattle.reader.proofs.Front.{length-front, over-front, used-over, cleared-front}
 use Rattle.reader.proofs.Settled as settled
 
 -- where nothing is refused: n points and symbols, and room for the curve and for work
 pub record FindGranted (S : Setting) (t : Terms) (points word curve work : List ℕ) : Type 0 where
-  pub given : Pair (S .p) (S .n) points (S .n) word
+  pub given : Given (S .p) (S .n) points ((S .n of word) ∷ [])
   pub curve-fits : t .size ≤ length curve
   pub work-fits : t .room ≤ length work
 
@@ -47,16 +46,16 @@ module _ {S : Setting} {t : Terms} (posed : Posed S t) {points word curve work :
   find-unsettled h = refused S points word curve work (setting-refuses posed _ h) h
 
   pub find-tested : t .refusal ≡ 0 → {short : Bool} → short ≡ ltb (length curve) (t .size) || ltb (length work) (t .room)
-      → {number : ℕ} → number ≡ lowest (pair-causes (S .p) (S .n) points (S .n) word ++ (8 if short) ∷ [])
+      → {number : ℕ} → number ≡ lowest (point-causes (S .p) (S .n) points ((S .n of word) ∷ []) ++ (8 if short) ∷ [])
       → FindTested S t points word curve work number
-  unfolding find-refusal word-causes pair-causes
+  unfolding find-refusal word-causes
   find-tested z {short} is-short e = record {
     settled = h;
     is = e ∙ rw (is-short, h .is-size, h .is-R) (others-decide posed _ z);
     granted = λ none.
-        let g = not-eight (pair-causes (S .p) (S .n) points (S .n) word) (pair-named (S .p) (S .n) points (S .n) word) (sym e ∙ none) in
+        let g = not-eight _ (point-named (S .p) (S .n) points _) (sym e ∙ none) in
         let rooms = two-rooms (length curve) (t .size) (length work) (t .room) (sym is-short ∙ g .1) in
-        record { given = pair (S .p) (S .n) points (S .n) word (g .0); curve-fits = rooms .0; work-fits = rooms .1 };
+        record { given = given (S .p) (S .n) points _ (g .0); curve-fits = rooms .0; work-fits = rooms .1 };
   }
     where
       h : Settled S t

@@ -4,7 +4,7 @@ mod Answers
 mod Patch
 mod Front
 pub mod Lowest
-mod Pair
+pub mod Given
 mod Rooms
 mod Times
 mod Scoring

@@ -12,25 +12,24 @@ use Rattle.rules.specs.Field.{ops}
 use Rattle.rules.specs.Code.{triples}
 use Rattle.rules.specs.Curve.{passes}
 use Rattle.rules.specs.Setting.{Setting}
-use Rattle.rules.specs.Refusal.{_if_, lowest, curve-causes, fits, list-refusal}
+use Rattle.rules.specs.Refusal.{Cause, _if_, _of_, lowest, symbol-causes, point-causes, curve-causes, fits, list-refusal}
 use Rattle.rules.specs.Outcome.{over, list-call}
 use Rattle.reader.specs.declared.Outcome.{Outcome}
 use Rattle.reader.specs.declared.terms.Terms.{Terms}
 use Rattle.reader.specs.Terms.{Settled, Posed}
 use Rattle.reader.specs.Calls.{listing, nothing}
-use Rattle.reader.specs.Causes.{proposed-causes}
 use Rattle.reader.specs.Word.{Listable, Listed}
 use Rattle.reader.proofs.Answers.{holds, fails}
 use Rattle.reader.proofs.First.{setting-refuses, others-decide}
 use Rattle.reader.proofs.Lowest.{named, lowest-none, here, later, first-refuses, first-accept}
-use Rattle.reader.proofs.Pair.{Proposed, proposed, proposed-named}
+use Rattle.reader.proofs.Given.{Given, given, point-named}
 use Rattle.reader.proofs.Rooms.{two-rooms, not-eight}
 use Rattle.reader.proofs.Front.{length-front, cleared-front}
 use Rattle.reader.proofs.Settled as settled
 
 -- where 5 to 8 do not apply: n points and symbols, a whole curve, and room for the list and for work
 pub record ListGranted (S : Setting) (t : Terms) (points word Q output work : List ℕ) : Type 0 where
-  pub given : Proposed (S .p) (S .n) points word (t .size) Q
+  pub given : Given (S .p) (S .n) points ((S .n of word) ∷ (t .size of Q) ∷ [])
   pub output-fits : t .list ≤ length output
   pub work-fits : t .room ≤ length work
 
@@ -54,27 +53,28 @@ module _ {S : Setting} {t : Terms} (posed : Posed S t) (points word Q output wor
   list-unsettled h = refused S points word Q output work (setting-refuses posed _ h) h
 
   module _ (z : t .refusal ≡ 0) {short : Bool} (is-short : short ≡ ltb (length output) (t .list) || ltb (length work) (t .room)) where
-    -- 5 to 8, and then 9
-    behind : lowest ((proposed-causes (S .p) (S .n) points word (t .size) Q ++ (8 if short) ∷ []) ++ (9 if not (fits S points word Q)) ∷ [])
-        ≡ list-refusal S points word Q (length output) (length work)
-    unfolding list-refusal curve-causes proposed-causes
+    -- 5 to 8
+    abbrev tests : List Cause
+    tests = point-causes (S .p) (S .n) points ((S .n of word) ∷ (t .size of Q) ∷ []) ++ (8 if short) ∷ []
+
+    -- .. and then 9
+    behind : lowest (tests ++ (9 if not (fits S points word Q)) ∷ []) ≡ list-refusal S points word Q (length output) (length work)
+    unfolding list-refusal curve-causes symbol-causes point-causes
     behind = let h = posed .settled z in rw (is-short, h .is-size, h .is-list, h .is-R) (others-decide posed _ z)
 
-    eight-named : T (named (proposed-causes (S .p) (S .n) points word (t .size) Q ++ (8 if short) ∷ []))
-    unfolding named proposed-causes
+    eight-named : T (named tests)
+    unfolding named symbol-causes point-causes
     eight-named = tt
 
-    pub list-tested : {number : ℕ} → number ≡ lowest (proposed-causes (S .p) (S .n) points word (t .size) Q ++ (8 if short) ∷ [])
-        → ListTested S t points word Q output work number
+    pub list-tested : {number : ℕ} → number ≡ lowest tests → ListTested S t points word Q output work number
     list-tested e = record {
       settled = posed .settled z;
       refuses = λ some. first-refuses _ _ e some ∙ behind;
       nine = λ none. sym (first-accept _ _ eight-named (sym e ∙ none)) ∙ behind;
       granted = λ none.
-          let causes = proposed-causes (S .p) (S .n) points word (t .size) Q in
-          let g = not-eight causes (proposed-named (S .p) (S .n) points word (t .size) Q) (sym e ∙ none) in
+          let g = not-eight _ (point-named (S .p) (S .n) points _) (sym e ∙ none) in
           let rooms = two-rooms (length output) (t .list) (length work) (t .room) (sym is-short ∙ g .1) in
-          record { given = proposed (S .p) (S .n) points word (t .size) Q (g .0); output-fits = rooms .0; work-fits = rooms .1 };
+          record { given = given (S .p) (S .n) points _ (g .0); output-fits = rooms .0; work-fits = rooms .1 };
     }
 
 module _ {S : Setting} {t : Terms} {points word Q output work : List ℕ} {number : ℕ}

@@ -8,23 +8,22 @@ use lib.ListN.{length}
 use borrow.Author.Tests.{ne-eqb}
 use borrow.Rule.Slice.PartMut.{midOf, putMid}
 use Rattle.rules.specs.Setting.{Setting}
-use Rattle.rules.specs.Refusal.{_if_, lowest, word-causes, read-refusal}
+use Rattle.rules.specs.Refusal.{_if_, _of_, lowest, point-causes, word-causes, read-refusal}
 use Rattle.rules.specs.Outcome.{over, read-call, Reads}
 use Rattle.reader.specs.declared.Outcome.{Outcome}
 use Rattle.reader.specs.declared.terms.Terms.{Terms}
 use Rattle.reader.specs.Terms.{Settled, Posed}
 use Rattle.reader.specs.Calls.{reading, nothing}
-use Rattle.reader.specs.Causes.{pair-causes}
 use Rattle.reader.specs.Word.{Readable, Passed, Listed}
 use Rattle.reader.proofs.First.{setting-refuses, others-decide}
-use Rattle.reader.proofs.Pair.{Pair, pair, pair-named}
+use Rattle.reader.proofs.Given.{Given, given, point-named}
 use Rattle.reader.proofs.Rooms.{three-rooms, not-eight}
 use Rattle.reader.proofs.Front.{length-front, over-front, used-over, cleared-front}
 use Rattle.reader.proofs.Settled as settled
 
 -- where nothing is refused: n points and symbols, and room for the list, for the curve and for work
 pub record ReadGranted (S : Setting) (t : Terms) (points word output curve work : List ℕ) : Type 0 where
-  pub given : Pair (S .p) (S .n) points (S .n) word
+  pub given : Given (S .p) (S .n) points ((S .n of word) ∷ [])
   pub output-fits : t .list ≤ length output
   pub curve-fits : t .size ≤ length curve
   pub work-fits : t .room ≤ length work
@@ -50,17 +49,17 @@ module _ {S : Setting} {t : Terms} (posed : Posed S t) {points word output curve
 
   pub read-tested : t .refusal ≡ 0 → {short : Bool}
       → short ≡ ltb (length output) (t .list) || ltb (length curve) (t .size) || ltb (length work) (t .room)
-      → {number : ℕ} → number ≡ lowest (pair-causes (S .p) (S .n) points (S .n) word ++ (8 if short) ∷ [])
+      → {number : ℕ} → number ≡ lowest (point-causes (S .p) (S .n) points ((S .n of word) ∷ []) ++ (8 if short) ∷ [])
       → ReadTested S t points word output curve work number
-  unfolding read-refusal word-causes pair-causes
+  unfolding read-refusal word-causes
   read-tested z {short} is-short e = record {
     settled = h;
     is = e ∙ rw (is-short, h .is-list, h .is-size, h .is-R) (others-decide posed _ z);
     granted = λ none.
-        let g = not-eight (pair-causes (S .p) (S .n) points (S .n) word) (pair-named (S .p) (S .n) points (S .n) word) (sym e ∙ none) in
+        let g = not-eight _ (point-named (S .p) (S .n) points _) (sym e ∙ none) in
         let rooms = three-rooms (length output) (t .list) (length curve) (t .size) (length work) (t .room) (sym is-short ∙ g .1) in
         record {
-          given = pair (S .p) (S .n) points (S .n) word (g .0);
+          given = given (S .p) (S .n) points _ (g .0);
           output-fits = rooms .0;
           curve-fits = rooms .1;
           work-fits = rooms .2;

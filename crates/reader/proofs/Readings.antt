@@ -21,10 +21,9 @@ use Rattle.demands.proofs.Beginnings.{few-alive}
 use Rattle.search.proofs.Start.{bound}
 use Rattle.setting.specs.Accepted.{Accepted}
 use Rattle.setting.proofs.Accepted.{accepted}
-use Rattle.reader.specs.Causes.{pair-causes, proposed-causes}
 use Rattle.reader.proofs.Answers.{passing-parts}
 use Rattle.reader.proofs.Lowest.{none-first, none-parts}
-use Rattle.reader.proofs.Pair.{Pair, pair, pair-named, proposed, proposed-named}
+use Rattle.reader.proofs.Given.{Given, given, point-named, first-long, first-under, others-given}
 use Rattle.reader.proofs.Scoring.{under-at}
 use Rattle.reader.proofs.First.{setting-named}
 
@@ -38,10 +37,10 @@ pub record Answer (S : Setting) (points word Q : List ℕ) (found tried : ℕ) (
   pub few : tried ≤ 1 + ℓ S * S .k
 
 module _ (S : Setting) (points word Q : List ℕ) where
-  -- an accepted setting, a word with its points, and a curve of symbols that passes for it
+  -- an accepted setting, its points, and a curve of symbols that passes for the word
   pub record Fit : Type 0 where
     pub setting : Accepted S
-    pub given : Pair (S .p) (S .n) points (S .n) word
+    pub given : Given (S .p) (S .n) points []
     pub whole : length Q ≡ curve-length S
     pub small : T (under (S .p) Q)
     pub passing : T (fits S points word Q)
@@ -95,19 +94,18 @@ module _ (S : Setting) (points word Q output work : List ℕ) where
   list-number = number-is (λ (o : Listing). o .refusal) (list-refusal S points word Q (length output) (length work)) _ _ refl refl
 
   list-fit : list-refusal S points word Q (length output) (length work) ≡ 0 → Fit S points word Q
-  unfolding list-refusal curve-causes proposed-causes
+  unfolding list-refusal curve-causes
   list-fit z =
       let first = none-parts (setting-causes S) _ (setting-named S) z in
-      let causes = proposed-causes (S .p) (S .n) points word (curve-length S) Q in
-      let second = none-parts causes _ (proposed-named (S .p) (S .n) points word (curve-length S) Q) (first .1) in
+      let second = none-parts (curve-causes S points word Q) _ (point-named (S .p) (S .n) points _) (first .1) in
       let rooms = none-first 8 (ltb (length output) (ℓ S * S .k) || ltb (length work) (R S)) _ (second .1) (λ e. omega arith) in
       let last = none-first 9 (not (fits S points word Q)) [] (rooms .1) (λ e. omega arith) in
-      let g = proposed (S .p) (S .n) points word (curve-length S) Q (second .0) in
+      let curve = others-given (given (S .p) (S .n) points _ (second .0)) in
       record {
         setting = accepted S (unfold setting-refusal in first .0);
-        given = g .given;
-        whole = g .curve-long;
-        small = g .curve-under;
+        given = others-given curve;
+        whole = first-long curve;
+        small = first-under curve;
         passing = rw (not-false (fits S points word Q) (last .0)) tt;
       }
 
@@ -136,15 +134,15 @@ module _ (S : Setting) (points word output curve work : List ℕ) where
   read-number Q = number-is (λ (o : Reading). o .refusal) refusal _ _ refl refl
 
   read-fit : refusal ≡ 0 → (Q : List ℕ) → T (usable S points word Q) → Fit S points word Q
-  unfolding read-refusal word-causes pair-causes usable long
+  unfolding read-refusal word-causes usable long
   read-fit z Q u =
       let first = none-parts (setting-causes S) _ (setting-named S) z in
-      let second = none-parts (pair-causes (S .p) (S .n) points (S .n) word) _ (pair-named (S .p) (S .n) points (S .n) word) (first .1) in
+      let second = none-parts (word-causes S points word) _ (point-named (S .p) (S .n) points _) (first .1) in
       let t = both (eqb (length Q) (curve-length S) && under (S .p) Q) (fits S points word Q) u in
       let t2 = both (eqb (length Q) (curve-length S)) (under (S .p) Q) (t .0) in
       record {
         setting = accepted S (unfold setting-refusal in first .0);
-        given = pair (S .p) (S .n) points (S .n) word (second .0);
+        given = others-given (given (S .p) (S .n) points _ (second .0));
         whole = eqb→eq (length Q) (curve-length S) (t2 .0);
         small = t2 .1;
         passing = t .1;

@@ -1,7 +1,7 @@
 -- A settled setting: what its numbers give the engine, and what the engine's answers say of the setting.
 use mathlib.Core.Path.{_≡_, refl, sym, _∙_}
 use mathlib.Core.Bool.{_&&_}
-use mathlib.Core.List.{List}
+use mathlib.Core.List.{List, [], _∷_}
 use Prim.Native.Nat.{ℕ, _+_, _*_, _≤_}
 use native.Mathlib.Nat.{mul-le-mul-right}
 use native.Mathlib.Omega.{arith}
@@ -12,7 +12,7 @@ use Rattle.rules.specs.Field.{ops}
 use Rattle.rules.specs.Code.{triples}
 use Rattle.rules.specs.Curve.{passes}
 use Rattle.rules.specs.Search.{rows, beginnings, listed}
-use Rattle.rules.specs.Refusal.{long, under, fits}
+use Rattle.rules.specs.Refusal.{Run, _of_, long, under, fits}
 use Rattle.rules.specs.Outcome.{usable, list-of, tried-of}
 use Rattle.rules.proofs.Tests.{and}
 use Rattle.algebra.proofs.Agreement.{sifted-times}
@@ -22,7 +22,7 @@ use Rattle.reader.specs.declared.terms.Terms.{Terms}
 use Rattle.reader.specs.Terms.{Settled}
 use Rattle.reader.specs.Word.{Worded, Findable, Listable, Readable, scoring-roots}
 use Rattle.reader.proofs.Answers.{is-long}
-use Rattle.reader.proofs.Pair.{Pair, Proposed}
+use Rattle.reader.proofs.Given.{Given, first-long, first-under, others-given}
 
 shaped : {S : Setting} → Accepted S → Shaped (S .p) (S .k) (W S) (ℓ S)
 shaped a = record {
@@ -55,15 +55,16 @@ module _ {S : Setting} {t : Terms} (h : Settled S t) where
   list-fits room = rw (h .is-ℓ) (omega (arith, h .is-list))
 
   module _ {points word : List ℕ} where
-    pub worded : Pair (S .p) (S .n) points (S .n) word → Worded (t .q) (S .k) (t .w) (t .l) (t .s) points word
+    pub worded : {others : List Run} → Given (S .p) (S .n) points ((S .n of word) ∷ others)
+        → Worded (t .q) (S .k) (t .w) (t .l) (t .s) points word
     worded g = rw (h .is-p, h .is-s, h .is-W, h .is-ℓ) (record {
       shape = shaped (h .accepted);
       small = h .accepted .passed .ranged .s-most;
       few = omega (arith, g .points-long, h .accepted .passed .ranged .code .n-most);
-      same = g .symbols-long ∙ sym (g .points-long);
+      same = first-long g ∙ sym (g .points-long);
     })
 
-    pub findable : Pair (S .p) (S .n) points (S .n) word → {curve work : List ℕ} → t .size ≡ length curve → t .room ≡ length work
+    pub findable : Given (S .p) (S .n) points ((S .n of word) ∷ []) → {curve work : List ℕ} → t .size ≡ length curve → t .room ≡ length work
         → Findable (t .q) (S .k) (t .w) (t .l) (t .s) points word curve work
     unfolding C U
     findable g whole room = record {
@@ -73,27 +74,29 @@ module _ {S : Setting} {t : Terms} (h : Settled S t) where
       enough = rw (g .points-long, h .is-s, h .is-W, h .is-ℓ) (h .accepted .passed .enough);
     }
 
-    pub readable : Pair (S .p) (S .n) points (S .n) word → {output curve work : List ℕ}
+    pub readable : Given (S .p) (S .n) points ((S .n of word) ∷ []) → {output curve work : List ℕ}
         → t .list ≤ length output → t .size ≡ length curve → t .room ≡ length work
         → Readable (t .q) (S .k) (t .w) (t .l) (t .s) points word output curve work
     readable g list whole room = record {
       findable = findable g whole room;
-      symbols = rw (h .is-p) (g .symbols-under);
+      symbols = rw (h .is-p) (first-under g);
       slots = omega (arith, slots (S .k + 2) (omega arith));
       list = list-most;
       room = list-fits list;
     }
 
-    module _ {Q : List ℕ} where
-      pub listable : Proposed (S .p) (S .n) points word (t .size) Q
-          → T (passes (ops (t .q)) (S .k) (t .w) (t .l) (triples (t .s) points word) Q)
+    module _ {Q : List ℕ} (g : Given (S .p) (S .n) points ((S .n of word) ∷ (t .size of Q) ∷ [])) where
+      pub checkable : Worded (t .q) (S .k) (t .w) (t .l) (t .s) points word × (length Q ≡ (t .l + 1) * t .w) × T (under (t .q) Q)
+      checkable = let curve = others-given g in (worded g, first-long curve ∙ size-is, rw (h .is-p) (first-under curve))
+
+      pub listable : T (passes (ops (t .q)) (S .k) (t .w) (t .l) (triples (t .s) points word) Q)
           → {output work : List ℕ} → t .list ≤ length output → t .room ≡ length work
           → Listable (t .q) (S .k) (t .w) (t .l) (t .s) points word Q output work
-      listable u passing list room = record {
-        worded = worded (u .given);
-        symbols = rw (h .is-p) (u .given .symbols-under);
-        whole = u .curve-long ∙ size-is;
-        small = rw (h .is-p) (u .curve-under);
+      listable passing list room = record {
+        worded = checkable .0;
+        symbols = rw (h .is-p) (first-under g);
+        whole = checkable .1;
+        small = checkable .2;
         passing = passing;
         slots = omega (arith, slots (S .k + 2) (omega arith));
         list = list-most;

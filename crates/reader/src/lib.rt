@@ -5,9 +5,9 @@ ghost use Rattle.rules.specs.Outcome.{encode-call, check-call, list-call, Finds
 ghost use Rattle.setting.specs.Call.{asked};
 ghost use Rattle.reader.specs.Calls.{encoded, checked, finding, listing, reading, nothing};
 
-mod refusals;
+pub mod refusals;
 mod sifting;
-pub mod slices;
+mod slices;
 mod terms;
 mod word;
 mod writing;
@@ -66,7 +66,7 @@ pub fn check(
             yes: false,
         };
     }
-    let number = refusals::of_proposed(p, n, points, word, t.size, curve);
+    let number = refusals::of_proposed(p, n, points, n, word, t.size, curve);
     if number != 0 {
         return Checked {
             refusal: number,

@@ -3,24 +3,45 @@ ghost use mathlib.Core.Path.{_≡_};
 ghost use mathlib.Core.Bool.{cond};
 ghost use mathlib.Core.List.{[], _∷_, _++_};
 ghost use lib.Dec.{eqb};
-ghost use Rattle.rules.specs.Refusal.{_if_, lowest, encode-refusal};
-ghost use Rattle.reader.specs.Causes.{pair-causes, proposed-causes};
+ghost use Rattle.rules.specs.Refusal.{_if_, _of_, lowest, point-causes, encode-refusal};
 use crate::slices;
 
-// 5 to 7 for n points and m symbols.
-pub fn of_pair(p: usize, n: usize, points: &[u16], m: usize, symbols: &[u16]) -> u16
-    ensures { λ r. ⌜ r ≡ lowest (pair-causes p n (now (points .entry)) m (now (symbols .entry))) ⌝ }
+// 5 to 7 for n points, m symbols and a curve of that size. The lengths come first, so that what is too long is not gone through.
+pub fn of_proposed(
+    p: usize,
+    n: usize,
+    points: &[u16],
+    m: usize,
+    symbols: &[u16],
+    size: usize,
+    curve: &[u16],
+) -> u16
+    ensures { λ r. ⌜ r ≡ lowest (point-causes p n (now (points .entry)) ((m of now (symbols .entry)) ∷ (size of now (curve .entry)) ∷ [])) ⌝ }
 {
-    if !slices::both_long(n, points, m, symbols) {
+    if !slices::three_long(n, points, m, symbols, size, curve) {
         return 5;
     }
-    if !slices::both_below(p, points, symbols) {
+    if !slices::three_below(p, points, symbols, curve) {
         return 6;
     }
     if !slices::all_distinct(points) {
         return 7;
     }
     0
+}
+
+// 5 to 7 for n points and m symbols: no curve is one of no numbers.
+fn of_pair(p: usize, n: usize, points: &[u16], m: usize, symbols: &[u16]) -> u16
+    ensures { λ r. ⌜ r ≡ lowest (point-causes p n (now (points .entry)) ((m of now (symbols .entry)) ∷ [])) ⌝ }
+{
+    of_proposed(p, n, points, m, symbols, 0, &points[..0])
+}
+
+// 5 to 7 for n points alone, as the points of a patch file come.
+pub fn of_points(p: usize, n: usize, points: &[u16]) -> u16
+    ensures { λ r. ⌜ r ≡ lowest (point-causes p n (now (points .entry)) []) ⌝ }
+{
+    of_pair(p, n, points, 0, &points[..0])
 }
 
 // The number that earlier causes give, or 8 where they give none and a room is too short.
@@ -38,35 +59,12 @@ fn or_eight(number: u16, short: bool) -> u16
 
 // 5 to 8 for n points and as many symbols, where the rooms are too short or not.
 pub fn of_word(p: usize, n: usize, points: &[u16], word: &[u16], short: bool) -> u16
-    ensures { λ r. ⌜ r ≡ lowest (pair-causes p n (now (points .entry)) n (now (word .entry)) ++ (8 if short) ∷ []) ⌝ }
+    ensures { λ r. ⌜ r ≡ lowest (point-causes p n (now (points .entry)) ((n of now (word .entry)) ∷ []) ++ (8 if short) ∷ []) ⌝ }
 {
     or_eight(of_pair(p, n, points, n, word), short)
 }
 
-// 5 to 7 for n points, as many symbols, and a proposed curve of that size.
-pub fn of_proposed(
-    p: usize,
-    n: usize,
-    points: &[u16],
-    word: &[u16],
-    size: usize,
-    curve: &[u16],
-) -> u16
-    ensures { λ r. ⌜ r ≡ lowest (proposed-causes p n (now (points .entry)) (now (word .entry)) size (now (curve .entry))) ⌝ }
-{
-    if !slices::three_long(n, points, word, size, curve) {
-        return 5;
-    }
-    if !slices::three_below(p, points, word, curve) {
-        return 6;
-    }
-    if !slices::all_distinct(points) {
-        return 7;
-    }
-    0
-}
-
-// 5 to 8 for these, where the rooms are too short or not.
+// 5 to 8 for n points, as many symbols and a proposed curve of that size, where the rooms are too short or not.
 pub fn of_listing(
     p: usize,
     n: usize,
@@ -76,9 +74,9 @@ pub fn of_listing(
     curve: &[u16],
     short: bool,
 ) -> u16
-    ensures { λ r. ⌜ r ≡ lowest (proposed-causes p n (now (points .entry)) (now (word .entry)) size (now (curve .entry)) ++ (8 if short) ∷ []) ⌝ }
+    ensures { λ r. ⌜ r ≡ lowest (point-causes p n (now (points .entry)) ((n of now (word .entry)) ∷ (size of now (curve .entry)) ∷ []) ++ (8 if short) ∷ []) ⌝ }
 {
-    or_eight(of_proposed(p, n, points, word, size, curve), short)
+    or_eight(of_proposed(p, n, points, n, word, size, curve), short)
 }
 
 // The refusal number of the encode call.

@@ -5,21 +5,21 @@ ghost use lib.Dec.{eqb, ltb};
 ghost use Rattle.rules.specs.Lists.{all, distinct};
 ghost use Rattle.rules.specs.Refusal.{long, under};
 
-// Whether these are n and those are m.
-pub fn both_long(n: usize, these: &[u16], m: usize, those: &[u16]) -> bool
-    ensures { λ r. ⌜ r ≡ long n (now (these .entry)) && long m (now (those .entry)) ⌝ }
+// Whether there are n points and m symbols, and the numbers of a curve are as many as its size.
+pub fn three_long(
+    n: usize,
+    points: &[u16],
+    m: usize,
+    symbols: &[u16],
+    size: usize,
+    curve: &[u16],
+) -> bool
+    ensures { λ r. ⌜ r ≡ long n (now (points .entry)) && (long m (now (symbols .entry)) && long size (now (curve .entry))) ⌝ }
 {
-    if these.len() != n {
+    if points.len() != n {
         return false;
     }
-    those.len() == m
-}
-
-// Whether these and those are n, and the numbers of a curve as many as its size.
-pub fn three_long(n: usize, these: &[u16], those: &[u16], size: usize, curve: &[u16]) -> bool
-    ensures { λ r. ⌜ r ≡ long n (now (these .entry)) && long n (now (those .entry)) && long size (now (curve .entry)) ⌝ }
-{
-    if !both_long(n, these, n, those) {
+    if symbols.len() != m {
         return false;
     }
     curve.len() == size
@@ -45,21 +45,14 @@ pub fn any_short(a: usize, x: usize, b: usize, y: usize, c: usize, z: usize) -> 
     c < z
 }
 
-// Whether each of these and of those is below p.
-pub fn both_below(p: usize, these: &[u16], those: &[u16]) -> bool
-    ensures { λ r. ⌜ r ≡ under p (now (these .entry)) && under p (now (those .entry)) ⌝ }
+// Whether each of the points, of the symbols and of a curve is below p.
+pub fn three_below(p: usize, points: &[u16], symbols: &[u16], curve: &[u16]) -> bool
+    ensures { λ r. ⌜ r ≡ under p (now (points .entry)) && (under p (now (symbols .entry)) && under p (now (curve .entry))) ⌝ }
 {
-    if !all_below(p, these) {
+    if !all_below(p, points) {
         return false;
     }
-    all_below(p, those)
-}
-
-// Whether each of these, of those and of a curve is below p.
-pub fn three_below(p: usize, these: &[u16], those: &[u16], curve: &[u16]) -> bool
-    ensures { λ r. ⌜ r ≡ under p (now (these .entry)) && under p (now (those .entry)) && under p (now (curve .entry)) ⌝ }
-{
-    if !both_below(p, these, those) {
+    if !all_below(p, symbols) {
         return false;
     }
     all_below(p, curve)

@@ -1,6 +1,6 @@
 -- What reading a word with what is held gives: the refusals of the word alone, and the readings.
 use mathlib.Core.Path.{_≡_, refl, sym, ap, _∙_, subst}
-use mathlib.Core.Bool.{Bool, true, false, cond, not, _&&_, _||_}
+use mathlib.Core.Bool.{Bool, true, false, cond, _&&_, _||_}
 use mathlib.Core.Logic.{_⊎_, inl, inr}
 use mathlib.Core.List.{List, [], _∷_, _++_, flatten}
 use Prim.Native.Nat.{ℕ, _-_, _*_, _<_, _≤_}
@@ -10,9 +10,8 @@ use native.Mathlib.Omega.{arith}
 use lib.Dec.{T, eqb, ltb, eqb→eq}
 use lib.ListN.{length, drop, length-append}
 use borrow.Author.Tests.{eq-eqb, ne-eqb, eqb-true, le-ltb}
-use Rattle.rules.specs.Lists.{distinct}
 use Rattle.rules.specs.Setting.{Setting, ℓ, curve-length, R}
-use Rattle.rules.specs.Refusal.{_if_, lowest, long, under, fits, setting-causes, setting-refusal, word-causes, read-refusal}
+use Rattle.rules.specs.Refusal.{_if_, _of_, lowest, long, under, fits, symbol-causes, setting-causes, setting-refusal, word-causes, read-refusal}
 use Rattle.rules.specs.Outcome.{Reading, Reads, over, usable, used, list-of, tried-of, cleared, read-call}
 use Rattle.rules.specs.Search.{rows}
 use Rattle.rules.specs.Patch.{ready, setting-record-refusal, points-refusal, word-refusal}
@@ -21,36 +20,32 @@ use Rattle.setting.specs.Accepted.{Accepted}
 use Rattle.setting.proofs.Accepted.{accepted}
 use Rattle.demands.proofs.Listing.{list-readings}
 use Rattle.reader.proofs.Lowest.{named, first-accept}
+use Rattle.reader.proofs.Given.{Given, others-alone}
 use Rattle.buffers.proofs.Change.{lt-or-ge}
 use Rattle.records.specs.Holding.{possible}
 use Rattle.records.specs.Heard.{Standing, Heard, messages-of}
-use Rattle.records.proofs.Refused.{call-refuses, too-much-work}
+use Rattle.records.proofs.Refused.{call-refuses, too-much-work, points-given}
 use Rattle.records.proofs.Lines.{Long, rows-flat, flat-long, readings-long}
-
-three : (a b c : Bool) → lowest ((5 if not a) ∷ (6 if not b) ∷ (7 if not c) ∷ []) ≡ 0 → (a ≡ true) × (b ≡ true) × (c ≡ true)
-unfolding lowest
-three true true true z = (refl, refl, refl)
-three true true false z = absurd (omega arith)
-three true false c z = absurd (omega arith)
-three false b c z = absurd (omega arith)
 
 -- what is known where points are held
 pub record Known (S : Setting) (points : List ℕ) : Type 0 where
   pub refused : setting-refusal S ≡ 0
   pub setting : Accepted S
   pub work : R S ≤ 24000
-  pub points-long : long (S .n) points ≡ true
-  pub points-under : under (S .p) points ≡ true
-  pub apart : distinct eqb points ≡ true
+  pub given : Given (S .p) (S .n) points []
 
 pub known : (S : Setting) (points : List ℕ) → T (possible (ready S points)) → Known S points
-unfolding possible points-refusal
+unfolding possible
 known S points h =
     let t = both (eqb (setting-record-refusal S) 0) (eqb (points-refusal S points) 0) h in
     let z = eqb→eq (setting-record-refusal S) 0 (t .0) in
-    let q = three (long (S .n) points) (under (S .p) points) (distinct eqb points) (eqb→eq (points-refusal S points) 0 (t .1)) in
     let r = go z (ℕ-discrete (setting-refusal S) 0) in
-    record { refused = r; setting = accepted S r; work = room r z (lt-or-ge 24000 (R S)); points-long = q .0; points-under = q .1; apart = q .2 }
+    record {
+      refused = r;
+      setting = accepted S r;
+      work = room r z (lt-or-ge 24000 (R S));
+      given = points-given S points (eqb→eq (points-refusal S points) 0 (t .1));
+    }
   where
     go : setting-record-refusal S ≡ 0 → Dec (setting-refusal S ≡ 0) → setting-refusal S ≡ 0
     go z (yes r) = r
@@ -65,8 +60,8 @@ module _ (S : Setting) (points word : List ℕ) (K : Known S points) where
   rooms = simp (le-ltb 1536 (ℓ S * S .k) (K .setting .output-most), le-ltb 6400 (curve-length S) (K .setting .curve-most), le-ltb 24000 (R S) (K .work))
 
   the-rest : lowest (word-causes S points word ++ ((8 if ltb 1536 (ℓ S * S .k) || ltb 6400 (curve-length S) || ltb 24000 (R S)) ∷ [])) ≡ word-refusal S word
-  unfolding lowest word-causes word-refusal
-  the-rest = simp (K .points-long, K .points-under, K .apart, rooms)
+  unfolding lowest word-causes word-refusal symbol-causes
+  the-rest = rw (others-alone (K .given) ((S .n of word) ∷ []), rooms) refl
 
   -- nothing else is refused than the word
   word-alone : read-refusal S points word 1536 6400 24000 ≡ word-refusal S word
@@ -125,7 +120,7 @@ module _ (S : Setting) (points word : List ℕ) (K : Known S points) where
       unfolding list under
       read-list = list-readings S points word (used S (o .curve)) (K .setting .passed .prime)
           (omega (arith, K .setting .passed .ranged .code .k-least)) (omega (arith, K .setting .passed .ranged .s-least))
-          (subst T (sym (K .points-under)) tt) (subst T (sym (K .apart)) tt) fitting
+          (K .given .points-under) (K .given .apart) fitting
 
       long-list : Long (S .k) list
       long-list = subst (Long (S .k)) (sym read-list) (readings-long (S .p) (S .k) (S .n - S .τ) points word)

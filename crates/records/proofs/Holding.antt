@@ -12,7 +12,7 @@ use Rattle.rules.proofs.Tests.{both}
 use Rattle.parsing.specs.Body.{Bodied}
 use Rattle.records.specs.declared.Held.{Held}
 use Rattle.records.specs.Holding.{held-of, holding, begun, possible, Clean, Sound}
-use Rattle.records.proofs.Refused.{points-long}
+use Rattle.records.proofs.Refused.{points-given}
 
 pub turns-are : (i : ℕ) (held : Holding) → holding i held .turns ≡ i
 unfolding holding
@@ -38,7 +38,7 @@ kept i nothing h = none-kept i
 kept i (set S) h = set-kept i S
 kept i (ready S points) h =
     ready-kept i S points
-    (points-long S points (eqb→eq (points-refusal S points) 0 (both (eqb (setting-record-refusal S) 0) (eqb (points-refusal S points) 0) h .1)))
+    (points-given S points (eqb→eq (points-refusal S points) 0 (both (eqb (setting-record-refusal S) 0) (eqb (points-refusal S points) 0) h .1)) .points-long)
 
 holding-clean : (i : ℕ) (held : Holding) → held-of (holding i held) ≡ held → Clean (holding i held)
 unfolding holding

@@ -1,18 +1,14 @@
--- The refusal numbers of setting and points records, case by case.
+-- The refusal numbers of setting and points records: when a setting is refused, and what holds of accepted points.
 use mathlib.Core.Path.{_≡_, sym, _∙_}
-use mathlib.Core.Bool.{true, false}
 use mathlib.Core.List.{List, [], _∷_}
 use Prim.Native.Nat.{ℕ, _<_, _≤_}
-use native.Mathlib.Omega.{arith}
-use native.Mathlib.Decide.{ℕ-discrete}
-use lib.Dec.{eqb, ltb}
-use lib.ListN.{length}
-use borrow.Author.Tests.{lt-ltb, le-ltb, eq-eqb, ne-eqb}
-use Rattle.rules.specs.Lists.{distinct}
+use lib.Dec.{ltb}
+use borrow.Author.Tests.{lt-ltb, le-ltb}
 use Rattle.rules.specs.Setting.{Setting, R}
-use Rattle.rules.specs.Refusal.{_if_, lowest, long, under, setting-causes, setting-refusal}
+use Rattle.rules.specs.Refusal.{_if_, lowest, setting-causes, setting-refusal}
 use Rattle.rules.specs.Patch.{program-work, setting-record-refusal, points-refusal}
 use Rattle.reader.proofs.Lowest.{named, first-refuses, first-accept}
+use Rattle.reader.proofs.Given.{Given, given}
 
 module _ (S : Setting) where
   -- what the setting call refuses is refused
@@ -32,28 +28,7 @@ module _ (S : Setting) where
   unfolding program-work lowest
   enough-work z l = sym (call-accepts z ∙ simp (le-ltb 24000 (R S) l))
 
-  module _ (points : List ℕ) where
-    pub points-5 : ¬ (length points ≡ S .n) → 5 ≡ points-refusal S points
-    unfolding points-refusal lowest long
-    points-5 h = simp (ne-eqb (length points) (S .n) h)
-
-    module _ (l : length points ≡ S .n) where
-      pub points-6 : under (S .p) points ≡ false → 6 ≡ points-refusal S points
-      unfolding points-refusal lowest long
-      points-6 u = simp (eq-eqb (length points) (S .n) l, u)
-
-      pub points-7 : under (S .p) points ≡ true → distinct eqb points ≡ false → 7 ≡ points-refusal S points
-      unfolding points-refusal lowest long
-      points-7 u d = simp (eq-eqb (length points) (S .n) l, u, d)
-
-      pub points-0 : under (S .p) points ≡ true → distinct eqb points ≡ true → 0 ≡ points-refusal S points
-      unfolding points-refusal lowest long
-      points-0 u d = simp (eq-eqb (length points) (S .n) l, u, d)
-
-    -- accepted points are n
-    pub points-long : points-refusal S points ≡ 0 → length points ≡ S .n
-    points-long z = go (ℕ-discrete (length points) (S .n))
-      where
-        go : Dec (length points ≡ S .n) → length points ≡ S .n
-        go (yes l) = l
-        go (no h) = absurd (omega (arith, points-5 h))
+  -- what holds of accepted points
+  pub points-given : (points : List ℕ) → points-refusal S points ≡ 0 → Given (S .p) (S .n) points []
+  unfolding points-refusal
+  points-given points z = given (S .p) (S .n) points [] z

@@ -15,7 +15,7 @@ use Rattle.records.specs.declared.Setting.{Setting as Struct}
 use Rattle.records.specs.declared.Held.{Held as Record}
 use Rattle.records.specs.declared.Stage.the-variants.{Nothing, Set, Ready}
 use Rattle.records.specs.Holding.{setting-of, held-of, with-array, holding}
-use Rattle.records.proofs.Refused.{points-long}
+use Rattle.records.proofs.Refused.{points-given}
 use Rattle.records.proofs.Holding.{turns-are, ready-kept, body-array}
 use Rattle.records.specs.Did.{Did, told-turn}
 
@@ -56,7 +56,7 @@ pub ready-held : {i : ℕ} {s : Struct} {numbers e : List ℕ} {m r : ℕ} {h : 
     (h ≡ holding i (ready (setting-of s) numbers)) × (held-of (holding i (ready (setting-of s) numbers)) ≡ ready (setting-of s) numbers)
 unfolding holding
 ready-held {i} {s} {numbers} {e} {m} read is z h =
-    let long = points-long (setting-of s) numbers (ap (points-refusal (setting-of s)) (sym (body-front refl read)) ∙ sym is ∙ z) in
+    let long = points-given (setting-of s) numbers (ap (points-refusal (setting-of s)) (sym (body-front refl read)) ∙ sym is ∙ z) .points-long in
     (h ∙ ap (with-array i s) (body-array read), ready-kept i (setting-of s) numbers long)
 
 module _ (i : ℕ) (S : Setting) (numbers : List ℕ) {r : ℕ} (e : r ≡ points-refusal S numbers) where

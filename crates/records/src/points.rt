@@ -17,16 +17,7 @@ use crate::with_setting;
 fn points_refusal(s: Setting, points: &[u16]) -> u16
     ensures { λ r. ⌜ r ≡ points-refusal (setting-of s) (now (points .entry)) ⌝ }
 {
-    if points.len() != s.n as usize {
-        return 5;
-    }
-    if !reader::slices::all_below(s.p as usize, points) {
-        return 6;
-    }
-    if !reader::slices::all_distinct(points) {
-        return 7;
-    }
-    0
+    reader::refusals::of_points(s.p as usize, s.n as usize, points)
 }
 
 // Points for this setting.

@@ -1,7 +1,6 @@
 -- check: the setting's refusal decides, then that of the slices, and then whether the curve passes.
-use mathlib.Core.Path.{_∙_}
 use Rattle.setting.specs.Call.{asked}
-use Rattle.reader.proofs.Settled.{worded, size-is}
+use Rattle.reader.proofs.Settled.{checkable}
 use Rattle.reader.proofs.Checking.{CheckTested, check-unsettled, check-tested, check-refused, check-accepted}
 use borrow.Author.Needs.{needs}
 use Rattle.reader.proofs.check.Statement.{statement}
@@ -30,10 +29,7 @@ returns-2 : tie.Need-returns-2
 returns-2 c = check-refused (tested (c .before)) (c .if2 .taken)
 
 fits-requires : tie.Need-fits-requires
-fits-requires c κs =
-    let h = tested (c .before) in
-    let g = h .granted (c .if2 .left) in
-    (worded (h .settled) (g .given), g .curve-long ∙ size-is (h .settled), rw (h .settled .is-p) (g .curve-under))
+fits-requires c κs = let h = tested (c .before) in checkable (h .settled) (h .granted (c .if2 .left))
 
 returns-3 : tie.Need-returns-3
 returns-3 c = check-accepted (tested (c .before .before)) (c .before .if2 .left) (c .fits2 .ensures)

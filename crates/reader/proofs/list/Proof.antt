@@ -1,8 +1,7 @@
 -- list: the setting's refusal decides, then that of the slices and the rooms, then whether the curve passes.
 -- Where it does, its roots that score enough are listed.
-use mathlib.Core.Path.{_∙_}
 use Rattle.setting.specs.Call.{asked}
-use Rattle.reader.proofs.Settled.{worded, size-is}
+use Rattle.reader.proofs.Settled.{checkable}
 use Rattle.reader.proofs.Listing.{ListTested, list-unsettled, list-tested, list-refused, list-fails, listable, list-accepted}
 use native.Mathlib.Omega.{arith}
 use borrow.Author.Needs.{needs}
@@ -46,10 +45,7 @@ returns-2 : tie.Need-returns-2
 returns-2 c = list-refused (tested (c .before .before)) (c .before .if2 .taken) (c .empty2 .ensures)
 
 fits-requires : tie.Need-fits-requires
-fits-requires c κs =
-    let h = tested (c .before) in
-    let g = h .granted (c .if2 .left) .given in
-    (worded (h .settled) (g .given), g .curve-long ∙ size-is (h .settled), rw (h .settled .is-p) (g .curve-under))
+fits-requires c κs = let h = tested (c .before) in checkable (h .settled) (h .granted (c .if2 .left) .given)
 
 empty-requires-3 : tie.Need-empty-requires-3
 empty-requires-3 c κs = search needs

@@ -1,7 +1,7 @@
 -- of_encode: the first test that fails is the cause of its number; what points, message and room are refused for comes behind.
 use mathlib.Core.Path.{_∙_}
 use Rattle.reader.proofs.Answers.{holds, fails}
-use Rattle.reader.proofs.Pair.{pair-named}
+use Rattle.reader.proofs.Given.{point-named}
 use Rattle.reader.proofs.Rooms.{eight-behind}
 use Rattle.reader.proofs.Encoding.{encode-refuses-1, encode-refuses-2, encode-rest}
 use borrow.Author.Needs.{needs}
@@ -34,7 +34,7 @@ returns-3 c =
     let b = c .before .before in
     let a = b .before .before in
     c .or-eight .ensures
-    ∙ eight-behind _ (pair-named _ _ _ _ _) _ (c .before .of-pair .ensures)
+    ∙ eight-behind _ (point-named _ _ _ _) _ (c .before .of-pair .ensures)
     ∙ encode-rest _ _ _ _ _ _ (holds (a .before .is-modulus .ensures) (a .if1 .left))
     (holds (b .before .code-in-ranges .ensures) (b .if2 .left))
 

@@ -1,6 +1,6 @@
 -- of_listing: what the slices are refused for comes first, and then the room.
 use mathlib.Core.Path.{_∙_}
-use Rattle.reader.proofs.Pair.{proposed-named}
+use Rattle.reader.proofs.Given.{point-named}
 use Rattle.reader.proofs.Rooms.{eight-behind}
 use borrow.Author.Needs.{needs}
 use Rattle.reader.proofs.refusals.of_listing.Statement.{statement}
@@ -13,7 +13,7 @@ or-eight-requires : tie.Need-or-eight-requires
 or-eight-requires c κs = search needs
 
 returns : tie.Need-returns
-returns c = c .or-eight .ensures ∙ eight-behind _ (proposed-named _ _ _ _ _ _) _ (c .before .of-proposed .ensures)
+returns c = c .or-eight .ensures ∙ eight-behind _ (point-named _ _ _ _) _ (c .before .of-proposed .ensures)
 
 pub of-listing-spec : {M : Type 1} → statement M
 of-listing-spec = tie.close (tie.spec of-proposed-requires or-eight-requires returns)

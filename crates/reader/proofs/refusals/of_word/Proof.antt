@@ -1,6 +1,6 @@
 -- of_word: what the points and the word are refused for comes first, and then the room.
 use mathlib.Core.Path.{_∙_}
-use Rattle.reader.proofs.Pair.{pair-named}
+use Rattle.reader.proofs.Given.{point-named}
 use Rattle.reader.proofs.Rooms.{eight-behind}
 use borrow.Author.Needs.{needs}
 use Rattle.reader.proofs.refusals.of_word.Statement.{statement}
@@ -13,7 +13,7 @@ or-eight-requires : tie.Need-or-eight-requires
 or-eight-requires c κs = search needs
 
 returns : tie.Need-returns
-returns c = c .or-eight .ensures ∙ eight-behind _ (pair-named _ _ _ _ _) _ (c .before .of-pair .ensures)
+returns c = c .or-eight .ensures ∙ eight-behind _ (point-named _ _ _ _) _ (c .before .of-pair .ensures)
 
 pub of-word-spec : {M : Type 1} → statement M
 of-word-spec = tie.close (tie.spec of-pair-requires or-eight-requires returns)

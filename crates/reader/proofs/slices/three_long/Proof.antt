@@ -1,19 +1,22 @@
--- three_long: where these and those are not n, nothing else is asked.
+-- three_long: where one is not as long as it has to be, nothing else is asked.
 use Rattle.rules.specs.Refusal.{long}
-use Rattle.reader.proofs.Answers.{holds, fails}
-use borrow.Author.Needs.{needs}
+use Rattle.reader.proofs.Answers.{is-long, not-long}
 use Rattle.reader.proofs.slices.three_long.Statement.{statement}
 use Rattle.reader.proofs.slices.three_long.Tie as tie
 
-both-long-requires : tie.Need-both-long-requires
-both-long-requires c κs = search needs
-
 returns : tie.Need-returns
-returns c = simp (fails (c .before .both-long .ensures) (c .if1 .taken))
+returns c = simp (not-long (c .before .args .points .now) (c .if1 .taken))
 
 returns-2 : tie.Need-returns-2
+returns-2 c =
+    let x = c .before .before .args in
+    simp (is-long (x .points .now) (c .before .if1 .left), not-long (x .symbols .now) (c .if2 .taken))
+
+returns-3 : tie.Need-returns-3
 unfolding long
-returns-2 c = simp (holds (c .before .both-long .ensures) (c .if1 .left))
+returns-3 c =
+    let x = c .before .before .args in
+    simp (is-long (x .points .now) (c .before .if1 .left), is-long (x .symbols .now) (c .if2 .left))
 
 pub three-long-spec : {M : Type 1} → statement M
-three-long-spec = tie.close (tie.spec both-long-requires returns returns-2)
+three-long-spec = tie.close (tie.spec returns returns-2 returns-3)
