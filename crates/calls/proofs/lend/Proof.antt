@@ -6,19 +6,23 @@ use borrow.Author.Needs.{needs}
 use Rattle.calls.proofs.lend.Statement.{statement}
 use Rattle.calls.proofs.lend.Tie as tie
 
+-- the start, as the first part that is lent looks back to it
+abbrev entry : tie.After-run-arg → tie.Start
+entry c = c .before .before .before .before
+
 slice-aggregate-run : tie.Need-slice-aggregate-run
 slice-aggregate-run c =
-    let start = c .before .before .before .before in
+    let start = entry c in
     sym (length-take-le (start .args .c .n) (start .args .points .now) (omega arith))
 
 slice-aggregate-run-2 : tie.Need-slice-aggregate-run-2
 slice-aggregate-run-2 c =
-    let start = c .before .before .before .before .before in
+    let start = entry (c .before) in
     sym (length-take-le (start .args .c .n) (start .args .word .now) (omega arith))
 
 slice-aggregate-run-3 : tie.Need-slice-aggregate-run-3
 slice-aggregate-run-3 c =
-    let start = c .before .before .before .before .before .before in
+    let start = entry (c .before .before) in
     sym (length-take-le (start .args .c .long) (start .args .curve .now) (omega arith))
 
 run-requires : tie.Need-run-requires

@@ -8,12 +8,16 @@ use borrow.Author.Needs.{needs}
 use Rattle.curve.proofs.passes.Statement.{statement}
 use Rattle.curve.proofs.passes.Tie as tie
 
+-- the start, as the first test looks back to it
+abbrev entry : tie.After-all-zero → tie.Start
+entry c = c .before .before .before .before .before
+
 all-zero-requires : tie.Need-all-zero-requires
 all-zero-requires c κs = search needs
 
 returns : tie.Need-returns
 returns c =
-    let start = c .before .before .before .before .before .before in
+    let start = entry (c .before) in
     let x = start .args in
     let zs = tripled (x .points .now) (x .word .now) (x .times .now) in
     zero-fails (x .q) (x .k) (x .w) (x .l) zs (x .curve .now) (start .pre .1) (subst T (sym (c .if1 .taken) ∙ c .before .all-zero .ensures) tt)
@@ -23,7 +27,7 @@ weighted-requires c κs = search needs
 
 returns-2 : tie.Need-returns-2
 returns-2 c =
-    let start = c .before .before .before .before .before .before .before .before in
+    let start = entry (c .before .before .before) in
     let x = start .args in
     let zs = tripled (x .points .now) (x .word .now) (x .times .now) in
     wide-fails (x .q) (x .k) (x .w) (x .l) zs (x .curve .now) (said-no _ _ (c .if2 .taken) (c .before .weighted .ensures (x .q) (start .pre .1)))
@@ -34,7 +38,7 @@ through-all-requires c κs = search needs
 returns-3 : tie.Need-returns-3
 returns-3 c =
     let at-all-zero = c .before .before .before .before in
-    let start = at-all-zero .before .before .before .before .before in
+    let start = entry at-all-zero in
     let x = start .args in
     let zs = tripled (x .points .now) (x .word .now) (x .times .now) in
     c .through-all .ensures ∙ met-passes (x .q) (x .k) (x .w) (x .l) zs (x .curve .now) (start .pre .0 .shape .field) (start .pre .1)

@@ -17,6 +17,13 @@ Inv-loop q k w l points word times curve j₀ j = (j ≤ length points) × ((i :
 abbrev μ-loop : tie.MeasureT-loop
 μ-loop q k w l points word times curve j₀ j = length points - j
 
+-- the places that answers look back to: the start from the loop, and the loop from its call
+abbrev entry : tie.At-loop Inv-loop μ-loop → tie.Start Inv-loop μ-loop
+entry c = c .before .before .before .before .before
+
+abbrev turn : tie.After-through Inv-loop μ-loop → tie.At-loop Inv-loop μ-loop
+turn c = c .before .before .before .before .before
+
 loop-holds : tie.Need-loop-holds Inv-loop μ-loop
 loop-holds c = (search needs, λ i l. absurd (omega arith))
 
@@ -44,13 +51,13 @@ cast-through c = omega (arith, c .shared-slice-known7 .given (c .before .before 
 through-requires : tie.Need-through-requires Inv-loop μ-loop
 through-requires c κs =
     let at-loop = c .before .before .before .before in
-    let start = at-loop .before .before .before .before .before in
+    let start = entry at-loop in
     (start .pre .shape, start .pre .few (at-loop .loop .j) (omega arith), start .pre .whole)
 
 returns : tie.Need-returns Inv-loop μ-loop
 returns c =
-    let at-loop = c .before .before .before .before .before .before in
-    let start = at-loop .before .before .before .before .before in
+    let at-loop = turn (c .before) in
+    let start = entry at-loop in
     let x = start .args in
     test-false _ (λ t. said-no _ _ (c .if1 .taken) (c .before .through .ensures)
     (tripled-at (met (x .q) (x .k) (x .w) (x .l) (x .curve .now)) (x .points .now) (x .word .now) (x .times .now) (at-loop .loop .j)
@@ -64,9 +71,8 @@ loop-less c = search needs
 
 loop-again : tie.Need-loop-again Inv-loop μ-loop
 loop-again c =
-    let at-loop = c .before .before .before .before .before .before in
-    let start = at-loop .before .before .before .before .before in
-    let x = start .args in (
+    let at-loop = turn (c .before) in
+    let x = entry at-loop .args in (
       search needs,
       below-more (λ i. T (met (x .q) (x .k) (x .w) (x .l) (x .curve .now) (triple-at (x .points .now) (x .word .now) (x .times .now) i)))
           (at-loop .loop .j) (at-loop .loop .inv .1)
@@ -75,8 +81,7 @@ loop-again c =
 
 returns-2 : tie.Need-returns-2 Inv-loop μ-loop
 returns-2 c =
-    let start = c .before .before .before .before .before .before in
-    let x = start .args in
+    let x = entry (c .before) .args in
     test-true _ (tripled-of (met (x .q) (x .k) (x .w) (x .l) (x .curve .now)) (x .points .now) (x .word .now) (x .times .now)
     (λ i l. c .before .loop .inv .1 i (omega arith)))
 

@@ -1,6 +1,6 @@
 -- value: sum is the total of the first t rows, and at and off say where row t and its part outside the space begin.
 use mathlib.Core.Path.{_≡_, _∙_}
-use Prim.Native.Nat.{_+_, _*_, _-_, _≤_}
+use Prim.Native.Nat.{_+_, _*_, _-_, _<_, _≤_}
 use native.Mathlib.Omega.{arith}
 use Rattle.rules.specs.Field.{ops}
 use Rattle.rules.specs.Curve.{total}
@@ -17,51 +17,56 @@ Inv-loop q k w l x y curve sum₀ t₀ at₀ off₀ sum t at off = (t ≤ l + 1)
 abbrev μ-loop : tie.MeasureT-loop
 μ-loop q k w l x y curve sum₀ t₀ at₀ off₀ sum t at off = l + 1 - t
 
+-- the places that answers look back to: the start from the loop, and the turn's test from its end
+abbrev entry : tie.At-loop Inv-loop μ-loop → tie.Start Inv-loop μ-loop
+entry c = c .before .before .before .before
+
+abbrev turn : tie.After-mixed Inv-loop μ-loop → tie.In-loop Inv-loop μ-loop
+turn c = c .before .before .before .before .before
+
+-- in a turn, row t ends within the curve and reaches into the space
+inside : (c : tie.In-loop Inv-loop μ-loop) → let x = entry (c .before) .args in let t = c .before .loop .t in
+    (t * (x .k - 1) < x .w) × (t * x .w + x .w ≤ (x .l + 1) * x .w)
+inside c = row-inside _ _ _ _ (entry (c .before) .pre .0 .fits) (c .loop-test .taken)
+
 loop-holds : tie.Need-loop-holds Inv-loop μ-loop
 loop-holds c =
     let x = c .before .before .before .args in
     (search needs, search needs, search needs, pairing-none (x .q) (x .k) (x .w) (x .x .now) (x .y .now) (x .curve .now))
 
 sub-n : tie.Need-sub-n Inv-loop μ-loop
-sub-n c = omega (arith, row-inside _ _ _ _ (c .before .before .before .before .before .pre .0 .fits) (c .loop-test .taken))
+sub-n c = omega (arith, inside c)
 
 add-e : tie.Need-add-e Inv-loop μ-loop
-add-e c = omega (arith, row-inside _ _ _ _ (c .before .before .before .before .before .pre .0 .fits) (c .loop-test .taken))
+add-e c = omega (arith, inside c)
 
 sub-dot : tie.Need-sub-dot Inv-loop μ-loop
-sub-dot c = omega (arith, row-inside _ _ _ _ (c .before .before .before .before .before .pre .0 .fits) (c .loop-test .taken))
+sub-dot c = omega (arith, inside c)
 
 part-dot-start : tie.Need-part-dot-start Inv-loop μ-loop
-part-dot-start c = omega (arith, row-inside _ _ _ _ (c .before .before .before .before .before .pre .0 .fits) (c .loop-test .taken))
+part-dot-start c = omega (arith, inside c)
 
 part-dot-end : tie.Need-part-dot-end Inv-loop μ-loop
-part-dot-end c = omega (arith, row-inside _ _ _ _ (c .before .before .before .before .before .pre .0 .fits) (c .loop-test .taken))
+part-dot-end c = omega (arith, inside c)
 
 mul-dot : tie.Need-mul-dot Inv-loop μ-loop
-mul-dot c =
-    let start = c .before .before .before .before .before .before in
-    omega (arith, row-inside _ _ _ _ (start .pre .0 .fits) (c .before .loop-test .taken))
+mul-dot c = omega (arith, inside (c .before))
 
 sub-dot-2 : tie.Need-sub-dot-2 Inv-loop μ-loop
-sub-dot-2 c =
-    let start = c .before .before .before .before .before .before in
-    omega (arith, row-inside _ _ _ _ (start .pre .0 .fits) (c .before .loop-test .taken))
+sub-dot-2 c = omega (arith, inside (c .before))
 
 part-dot-start-2 : tie.Need-part-dot-start-2 Inv-loop μ-loop
-part-dot-start-2 c =
-    let start = c .before .before .before .before .before .before in
-    omega (arith, row-inside _ _ _ _ (start .pre .0 .fits) (c .before .loop-test .taken))
+part-dot-start-2 c = omega (arith, inside (c .before))
 
 part-dot-end-2 : tie.Need-part-dot-end-2 Inv-loop μ-loop
-part-dot-end-2 c =
-    let start = c .before .before .before .before .before .before in
-    omega (arith, row-inside _ _ _ _ (start .pre .0 .fits) (c .before .loop-test .taken))
+part-dot-end-2 c = omega (arith, inside (c .before))
 
 dot-requires : tie.Need-dot-requires Inv-loop μ-loop
 dot-requires c κs =
-    let start = c .before .before .before .before .before .before .before in
-    let l = c .before .before .before .loop in
-    let h = row-inside _ _ _ _ (start .pre .0 .fits) (c .before .before .loop-test .taken) in
+    let at-loop = c .before .before .before in
+    let start = entry at-loop in
+    let l = at-loop .loop in
+    let h = inside (c .before .before) in
     let p = parts-long (start .args .w - l .off) (l .at) (start .args .x .now) (start .args .curve .now) (omega arith) (omega arith) in
     (start .pre .0 .field, omega arith, omega arith)
 
@@ -75,22 +80,13 @@ mixed-requires : tie.Need-mixed-requires Inv-loop μ-loop
 mixed-requires c κs = search needs
 
 add-at : tie.Need-add-at Inv-loop μ-loop
-add-at c =
-    let at-loop-test = c .before .before .before .before .before in
-    let start = at-loop-test .before .before .before .before .before in
-    omega (arith, row-inside _ _ _ _ (start .pre .0 .fits) (at-loop-test .loop-test .taken))
+add-at c = omega (arith, inside (turn c))
 
 sub-off : tie.Need-sub-off Inv-loop μ-loop
-sub-off c =
-    let at-loop-test = c .before .before .before .before .before in
-    let start = at-loop-test .before .before .before .before .before in
-    omega (arith, row-inside _ _ _ _ (start .pre .0 .fits) (at-loop-test .loop-test .taken))
+sub-off c = omega (arith, inside (turn c))
 
 add-off : tie.Need-add-off Inv-loop μ-loop
-add-off c =
-    let at-loop-test = c .before .before .before .before .before in
-    let start = at-loop-test .before .before .before .before .before in
-    omega (arith, row-inside _ _ _ _ (start .pre .0 .fits) (at-loop-test .loop-test .taken))
+add-off c = omega (arith, inside (turn c))
 
 add-t : tie.Need-add-t Inv-loop μ-loop
 add-t c = search needs
@@ -100,12 +96,10 @@ loop-less c = search needs
 
 loop-again : tie.Need-loop-again Inv-loop μ-loop
 loop-again c =
-    let at-loop-test = c .before .before .before .before .before in
-    let at-loop = at-loop-test .before in
-    let start = at-loop .before .before .before .before in
+    let at-loop = turn c .before in
+    let x = entry at-loop .args in
     let l = at-loop .loop in
-    let x = start .args in
-    let h = row-inside _ _ _ _ (start .pre .0 .fits) (at-loop-test .loop-test .taken) in (
+    let h = inside (turn c) in (
       search needs,
       omega (arith, row-end (l .t) (x .w)),
       omega (arith, row-end (l .t) (x .k - 1)),
@@ -115,7 +109,7 @@ loop-again c =
 
 returns : tie.Need-returns Inv-loop μ-loop
 returns c =
-    let x = c .before .before .before .before .before .args in
+    let x = entry (c .before) .args in
     c .before .loop .inv .3 ∙ pairing-all (x .q) (x .k) (x .w) (x .x .now) (x .y .now) (x .curve .now) _ (x .l) (omega arith)
 
 pub value-spec : {M : Type 1} → statement M

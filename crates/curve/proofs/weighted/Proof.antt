@@ -17,29 +17,38 @@ Inv-loop k w l curve t₀ at₀ off₀ t at off = (t ≤ l + 1) × (at ≡ t * w
 abbrev μ-loop : tie.MeasureT-loop
 μ-loop k w l curve t₀ at₀ off₀ t at off = l + 1 - t
 
+-- the start, as the loop looks back to it
+abbrev entry : tie.At-loop Inv-loop μ-loop → tie.Start Inv-loop μ-loop
+entry c = c .before .before
+
+-- in a turn, row t ends within the curve and reaches into the space
+inside : (c : tie.In-loop Inv-loop μ-loop) → let x = entry (c .before) .args in let t = c .before .loop .t in
+    (t * (x .k - 1) < x .w) × (t * x .w + x .w ≤ (x .l + 1) * x .w)
+inside c = row-inside _ _ _ _ (entry (c .before) .pre .3) (c .loop-test .taken)
+
 loop-holds : tie.Need-loop-holds Inv-loop μ-loop
 loop-holds c = (search needs, search needs, search needs, λ t l. absurd (omega arith))
 
 sub-s : tie.Need-sub-s Inv-loop μ-loop
-sub-s c = omega (arith, row-inside _ _ _ _ (c .before .before .before .pre .3) (c .loop-test .taken))
+sub-s c = omega (arith, inside c)
 
 add-s : tie.Need-add-s Inv-loop μ-loop
-add-s c = omega (arith, row-inside _ _ _ _ (c .before .before .before .pre .3) (c .loop-test .taken))
+add-s c = omega (arith, inside c)
 
 add-e : tie.Need-add-e Inv-loop μ-loop
-add-e c = omega (arith, row-inside _ _ _ _ (c .before .before .before .pre .3) (c .loop-test .taken))
+add-e c = omega (arith, inside c)
 
 mul-all-zero : tie.Need-mul-all-zero Inv-loop μ-loop
-mul-all-zero c = omega (arith, row-inside _ _ _ _ (c .before .before .before .pre .3) (c .loop-test .taken))
+mul-all-zero c = omega (arith, inside c)
 
 sub-all-zero : tie.Need-sub-all-zero Inv-loop μ-loop
-sub-all-zero c = omega (arith, row-inside _ _ _ _ (c .before .before .before .pre .3) (c .loop-test .taken))
+sub-all-zero c = omega (arith, inside c)
 
 part-all-zero-start : tie.Need-part-all-zero-start Inv-loop μ-loop
-part-all-zero-start c = omega (arith, row-inside _ _ _ _ (c .before .before .before .pre .3) (c .loop-test .taken))
+part-all-zero-start c = omega (arith, inside c)
 
 part-all-zero-end : tie.Need-part-all-zero-end Inv-loop μ-loop
-part-all-zero-end c = omega (arith, row-inside _ _ _ _ (c .before .before .before .pre .3) (c .loop-test .taken))
+part-all-zero-end c = omega (arith, inside c)
 
 all-zero-requires : tie.Need-all-zero-requires Inv-loop μ-loop
 all-zero-requires c κs = search needs
@@ -47,27 +56,20 @@ all-zero-requires c κs = search needs
 returns : tie.Need-returns Inv-loop μ-loop
 returns c =
     let at-loop = c .before .before .before .before in
-    let start = at-loop .before .before in
-    let x = start .args in
+    let x = entry at-loop .args in
     let l = at-loop .loop in
-    let h = row-inside _ _ _ _ (start .pre .3) (c .before .before .before .loop-test .taken) in
+    let h = inside (c .before .before .before) in
     λ q u. weighted-false q (x .k) (x .w) (x .l) (x .curve .now) u (λ f. said-no _ _ (c .if1 .taken) (c .before .all-zero .ensures)
     (clear-behind (x .k) (x .w) (l .t) (l .at) (l .off) (x .curve .now) (l .inv .1) (l .inv .2) (omega arith) (omega arith) (f (l .t) (omega arith))))
 
 add-at : tie.Need-add-at Inv-loop μ-loop
-add-at c =
-    let start = c .before .before .before .before .before .before in
-    omega (arith, row-inside _ _ _ _ (start .pre .3) (c .before .before .before .loop-test .taken))
+add-at c = omega (arith, inside (c .before .before .before))
 
 sub-off : tie.Need-sub-off Inv-loop μ-loop
-sub-off c =
-    let start = c .before .before .before .before .before .before in
-    omega (arith, row-inside _ _ _ _ (start .pre .3) (c .before .before .before .loop-test .taken))
+sub-off c = omega (arith, inside (c .before .before .before))
 
 add-off : tie.Need-add-off Inv-loop μ-loop
-add-off c =
-    let start = c .before .before .before .before .before .before in
-    omega (arith, row-inside _ _ _ _ (start .pre .3) (c .before .before .before .loop-test .taken))
+add-off c = omega (arith, inside (c .before .before .before))
 
 add-t : tie.Need-add-t Inv-loop μ-loop
 add-t c = search needs
@@ -78,10 +80,9 @@ loop-less c = search needs
 loop-again : tie.Need-loop-again Inv-loop μ-loop
 loop-again c =
     let at-loop = c .before .before .before .before in
-    let start = at-loop .before .before in
-    let x = start .args in
+    let x = entry at-loop .args in
     let l = at-loop .loop in
-    let h = row-inside _ _ _ _ (start .pre .3) (c .before .before .before .loop-test .taken) in (
+    let h = inside (c .before .before .before) in (
       search needs,
       omega (arith, row-end (l .t) (x .w)),
       omega (arith, row-end (l .t) (x .k - 1)),
@@ -92,7 +93,7 @@ loop-again c =
 
 returns-2 : tie.Need-returns-2 Inv-loop μ-loop
 returns-2 c =
-    let x = c .before .before .before .args in
+    let x = entry (c .before) .args in
     λ q u. weighted-true q (x .k) (x .w) (x .l) (x .curve .now) u (λ t l. c .before .loop .inv .3 t (omega arith))
 
 pub weighted-spec : {M : Type 1} → statement M

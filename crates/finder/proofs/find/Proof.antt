@@ -21,14 +21,21 @@ use Rattle.finder.proofs.find.Statement.{statement}
 use Rattle.finder.proofs.find.Tie as tie
 
 -- the places on the way, from the last of them on, and what the two buffers hold there
-abbrev entry : tie.After-room → tie.Start
-entry c = c .before .before .before .before .before .before .before .before .before .before .before .before .before .before .before .before .before .before .before
-
-abbrev started : tie.After-room → tie.After-start
-started c = c .before .before .before .before .before .before .before .before .before .before .before .before
-
 abbrev met : tie.After-room → tie.After-meet-all
-met c = c .before .before .before .before .before .before .before
+met c =
+    let at-ones = c .before .before in
+    at-ones .before .before .before .before .before
+
+abbrev started : tie.After-meet-all → tie.After-start
+started c = c .before .before .before .before .before
+
+abbrev begun : tie.After-start → tie.Start
+begun c =
+    let at-slices = c .before .before in
+    at-slices .before .before .before .before .before
+
+abbrev entry : tie.After-room → tie.Start
+entry c = begun (started (met c))
 
 abbrev leads : tie.After-room → List ℕ
 leads c = met c .meet-all .last .1 .1 .1 .1 .1 .1 .1 .0
@@ -42,11 +49,11 @@ state : (c : tie.After-room) → let a = entry c .args in (h : 1 < a .q) →
 state c h =
     let s = entry c .pre .0 .shape in
     met c .meet-all .ensures .1 .keeps h []
-    (kept-start s h (started c .start .last .1 .1 .1 .1 .0) (started c .start .ensures) (replicate 25 0)
+    (kept-start s h (started (met c) .start .last .1 .1 .1 .1 .0) (started (met c) .start .ensures) (replicate 25 0)
     (λ j u. getD-replicate 25 j 0 0 (omega (arith, s .few))))
 
 same-room : (c : tie.After-room) → length (held c) ≡ length (entry c .args .work .now)
-same-room c = met c .meet-all .kept .1 .1 .1 .1 .1 .1 .1 .1 .0 ∙ started c .start .kept .1 .1 .1 .1 .0
+same-room c = met c .meet-all .kept .1 .1 .1 .1 .1 .1 .1 .1 .0 ∙ started (met c) .start .kept .1 .1 .1 .1 .0
 
 room-left : (c : tie.After-room) → let a = entry c .args in (a .l + 1) * slot (a .w) (a .l) ≤ length (held c)
 room-left c = omega (arith, entry c .pre .1, same-room c)
@@ -76,7 +83,7 @@ slice-aggregate-meet-all c = search needs
 meet-all-requires : tie.Need-meet-all-requires
 meet-all-requires c κs =
     let at-start = c .before .before .before .before in
-    let start = at-start .before .before .before .before .before .before .before in
+    let start = begun at-start in
     let a = start .args in
     let p = start .pre .0 in (
       p .shape,
@@ -97,8 +104,7 @@ slice-aggregate-pivot-2 c = search needs
 pivot-requires : tie.Need-pivot-requires
 pivot-requires c κs =
     let at-meet-all = c .before .before .before .before .before in
-    let start = at-meet-all .before .before .before .before .before .before .before .before .before .before .before .before in
-    let p = start .pre .0 in (
+    let p = begun (started at-meet-all) .pre .0 in (
       p .shape,
       omega (arith, p .shape .few, at-meet-all .meet-all .kept .1 .1 .1 .1 .1 .1 .1 .0),
       omega (arith, p .shape .few),
@@ -142,14 +148,15 @@ same-length-2 c = search needs
 
 returns : tie.Need-returns
 returns c =
-    let r = c .before .before .before .before .before .before in
+    let at-copy = c .before .before in
+    let r = at-copy .before .before .before .before in
     let at-pivot = r .before in
     let a = entry r .args in
     let p = at-pivot .pivot .result in
     let s = r .room .result in
     let e : take (p * s + s - p * s) (drop (p * s) (held r)) ≡ curve-at (a .w) (a .l) (held r) p =
     ap (λ (n : ℕ). take n (drop (p * s) (held r))) (add-sub-cancel-left (p * s) s) ∙ ap (λ (x : ℕ). take x (drop (p * x) (held r))) (r .room .ensures) in
-    rw (c .before .before .copy .ensures, e) (answer r)
+    rw (at-copy .copy .ensures, e) (answer r)
 
 pub find-spec : {M : Type 1} → statement M
 find-spec =

@@ -12,8 +12,14 @@ use Rattle.reader.proofs.list.Tie as tie
 abbrev posed : tie.After-of-listing → tie.After-of-setting
 posed c = c .before .before .before .before
 
--- what is known from there on
-tested : (c : tie.After-of-listing) → let x = posed c .before .before .before .before .before .before .args in
+-- and from there back to the start
+abbrev entry : tie.After-of-setting → tie.Start
+entry c =
+    let at-slices = c .before in
+    at-slices .before .before .before .before .before
+
+-- what is known from where they are told on
+tested : (c : tie.After-of-listing) → let x = entry (posed c) .args in
     ListTested (asked (x .p) (x .n) (x .k) (x .s) (x .tau)) (posed c .of-setting .result)
     (x .points .now) (x .word .now) (x .curve .now) (x .output .now) (x .work .now) (c .of-listing .result)
 tested c = list-tested (posed c .of-setting .ensures) _ _ _ _ _ (c .before .before .if1 .left)

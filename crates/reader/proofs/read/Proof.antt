@@ -10,8 +10,14 @@ use Rattle.reader.proofs.read.Tie as tie
 abbrev posed : tie.After-of-word → tie.After-of-setting
 posed c = c .before .before .before .before
 
--- what is known from there on
-tested : (c : tie.After-of-word) → let x = posed c .before .before .before .before .before .before .args in
+-- and from there back to the start
+abbrev entry : tie.After-of-setting → tie.Start
+entry c =
+    let at-slices = c .before in
+    at-slices .before .before .before .before .before
+
+-- what is known from where they are told on
+tested : (c : tie.After-of-word) → let x = entry (posed c) .args in
     ReadTested (asked (x .p) (x .n) (x .k) (x .s) (x .tau)) (posed c .of-setting .result)
     (x .points .now) (x .word .now) (x .output .now) (x .curve .now) (x .work .now) (c .of-word .result)
 tested c = read-tested (posed c .of-setting .ensures) (c .before .before .if1 .left) (c .before .any-short .ensures) (c .of-word .ensures)
@@ -73,7 +79,8 @@ same-length-3 c = search needs
 
 returns-3 : tie.Need-returns-3
 returns-3 c =
-    let e = c .before .before .before .before .before .before in
+    let at-curve = c .before .before .before in
+    let e = at-curve .before .before .before in
     read-accepted (tested (accepted e .before)) (accepted e .if2 .left) (e .read .ensures .0) (e .read .ensures .1)
 
 pub read-spec : {M : Type 1} → statement M

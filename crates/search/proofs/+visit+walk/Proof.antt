@@ -61,8 +61,9 @@ module _ (t : ℕ) where
 
   visit-settle-requires : visit-lts.Need-settle-requires visit-claims (visit-at t) visit.Post
   visit-settle-requires c κs =
-      let start = c .before .before .before .before .before .before .before in
-      ready-end (c .before .before .before .if1 .taken) (start .pre .1)
+      let at-if1 = c .before .before .before in
+      let start = at-if1 .before .before .before .before in
+      ready-end (at-if1 .if1 .taken) (start .pre .1)
 
   visit-same-length : visit-lts.Need-same-length visit-claims (visit-at t) visit.Post
   visit-same-length c = search needs
@@ -75,8 +76,9 @@ module _ (t : ℕ) where
 
   visit-returns : visit-lts.Need-returns visit-claims (visit-at t) visit.Post
   visit-returns c =
-      let at-if1 = c .before .before .before .before .before .before in
-      searched-end (at-if1 .if1 .taken) (c .before .before .settle .ensures)
+      let at-settle = c .before .before in
+      let at-if1 = at-settle .before .before .before .before in
+      searched-end (at-if1 .if1 .taken) (at-settle .settle .ensures)
 
   visit-add-t16 : visit-lts.Need-add-t16 visit-claims (visit-at t) visit.Post
   visit-add-t16 c =
@@ -102,11 +104,17 @@ module _ (t : ℕ) where
 
   visit-returns-2 : visit-lts.Need-returns-2 visit-claims (visit-at t) visit.Post
   visit-returns-2 c =
-      let at-walk = c .before .before .before .before .before .before in
+      let at-begun = c .before .before .before in
+      let at-walk = at-begun .before .before .before in
       let at-if1 = at-walk .before .before .before .before .before in
       let start = at-if1 .before .before .before .before in
       let x = start .args in
       searched-visit _ _ (tried-some (x .h) (x .left) (x .a) (x .work .now) (at-if1 .if1 .left)) (at-walk .walk .ensures)
+
+  -- the start of walk, as its loop looks back to it
+  abbrev walk-entry : walk-lts.At-loop walk-claims (walk-at t) walk.Post walk-Inv-loop walk-μ-loop →
+      walk-lts.Start walk-claims (walk-at t) walk.Post walk-Inv-loop walk-μ-loop
+  walk-entry c = c .before .before .before .before .before
 
   walk-sub-place : walk-lts.Need-sub-place walk-claims (walk-at t) walk.Post walk-Inv-loop walk-μ-loop
   walk-sub-place c = omega (arith, c .before .before .before .before .pre .1 .1 .placed)
@@ -138,33 +146,32 @@ module _ (t : ℕ) where
 
   walk-follows-requires : walk-lts.Need-follows-requires walk-claims (walk-at t) walk.Post walk-Inv-loop walk-μ-loop
   walk-follows-requires c κs =
-      let start = c .before .before .before .before .before .before .before in
+      let at-loop = c .before .before in
+      let start = walk-entry at-loop in
       let x = start .args in
       let p = start .pre .1 in
-      let l = c .before .before .loop in
+      let l = at-loop .loop in
       let gq : l .g < x .h .q = omega arith in
       (p .1 .shaped .field, p .1 .shaped .wide, p .1 .shaped .tall, omega (arith, room-next _ _ _ _ _ _ _ (p .0) (p .1) _ gq (l .inv .1)))
 
   walk-mul-begun : walk-lts.Need-mul-begun walk-claims (walk-at t) walk.Post walk-Inv-loop walk-μ-loop
   walk-mul-begun c =
       let at-loop = c .before .before .before .before in
-      let start = at-loop .before .before .before .before .before in
-      let p = start .pre .1 in
+      let p = walk-entry at-loop .pre .1 in
       let l = at-loop .loop in
       omega (arith, p .0, p .1 .placed, p .1 .beginning, l .inv .1 .beginning)
 
   walk-slice-write-begun : walk-lts.Need-slice-write-begun walk-claims (walk-at t) walk.Post walk-Inv-loop walk-μ-loop
   walk-slice-write-begun c =
       let at-loop = c .before .before .before .before in
-      let start = at-loop .before .before .before .before .before in
-      let p = start .pre .1 in
+      let p = walk-entry at-loop .pre .1 in
       let l = at-loop .loop in
       omega (arith, p .0, p .1 .placed, p .1 .beginning, l .inv .1 .beginning)
 
   walk-next-requires : walk-lts.Need-next-requires walk-claims (walk-at t) walk.Post walk-Inv-loop walk-μ-loop
   walk-next-requires c κs =
       let at-loop = c .before .before .before .before .before in
-      let start = at-loop .before .before .before .before .before in
+      let start = walk-entry at-loop in
       let x = start .args in
       let p = start .pre .1 in
       let l = at-loop .loop in
@@ -180,8 +187,9 @@ module _ (t : ℕ) where
 
   walk-sub-visit : walk-lts.Need-sub-visit walk-claims (walk-at t) walk.Post walk-Inv-loop walk-μ-loop
   walk-sub-visit c =
-      let start = c .before .before .before .before .before .before .before .before .before .before .before .before .before in
-      omega (arith, start .pre .1 .0)
+      let at-if1 = c .before .before .before .before in
+      let at-loop = at-if1 .before .before .before .before in
+      omega (arith, walk-entry at-loop .pre .1 .0)
 
   walk-visit-requires : walk-lts.Need-visit-requires walk-claims (walk-at t) walk.Post walk-Inv-loop walk-μ-loop
   walk-visit-requires c κs =
@@ -189,7 +197,7 @@ module _ (t : ℕ) where
       let at-if1 = at-next .before .before in
       let at-follows = at-if1 .before in
       let at-loop = at-follows .before .before .before in
-      let start = at-loop .before .before .before .before .before in
+      let start = walk-entry at-loop in
       let x = start .args in
       let p = start .pre .1 in
       let l = at-loop .loop in
@@ -200,7 +208,7 @@ module _ (t : ℕ) where
 
   walk-add-g : walk-lts.Need-add-g walk-claims (walk-at t) walk.Post walk-Inv-loop walk-μ-loop
   walk-add-g c =
-      let start = c .before .before .before .before .before .before .before .before .before in
+      let start = walk-entry (c .before .before .before .before) in
       omega (arith, modulus-small (start .args .h .q) (start .pre .1 .1 .shaped .field))
 
   walk-loop-less : walk-lts.Need-loop-less walk-claims (walk-at t) walk.Post walk-Inv-loop walk-μ-loop
@@ -209,7 +217,7 @@ module _ (t : ℕ) where
   walk-loop-again : walk-lts.Need-loop-again walk-claims (walk-at t) walk.Post walk-Inv-loop walk-μ-loop
   walk-loop-again c =
       let at-loop = c .before .before .before .before in
-      let start = at-loop .before .before .before .before .before in
+      let start = walk-entry at-loop in
       let x = start .args in
       let p = start .pre .1 in
       let l = at-loop .loop in
@@ -234,7 +242,7 @@ module _ (t : ℕ) where
 
   walk-returns : walk-lts.Need-returns walk-claims (walk-at t) walk.Post walk-Inv-loop walk-μ-loop
   walk-returns c =
-      let start = c .before .before .before .before .before .before in
+      let start = walk-entry (c .before) in
       let x = start .args in
       let p = start .pre .1 in
       let l = c .before .loop in

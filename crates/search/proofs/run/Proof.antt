@@ -37,7 +37,8 @@ same-length-2 c = search needs
 returns : tie.Need-returns
 returns c =
     let at-visit = c .before .before .before .before .before in
-    let at-strip = at-visit .before .before .before .before .before .before in
+    let at-begun = at-visit .before .before in
+    let at-strip = at-begun .before .before .before .before in
     let start = at-strip .before .before .before .before in
     let x = start .args in
     let S = (x .l + 1) * x .w in

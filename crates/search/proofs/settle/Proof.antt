@@ -10,6 +10,10 @@ use borrow.Author.Needs.{needs}
 use Rattle.search.proofs.settle.Statement.{statement}
 use Rattle.search.proofs.settle.Tie as tie
 
+-- the start, as the test of the row looks back to it
+abbrev entry : tie.After-is-zero → tie.Start
+entry c = c .before .before .before .before
+
 is-zero-requires : tie.Need-is-zero-requires
 is-zero-requires c κs =
     let start = c .before .before .before in
@@ -21,10 +25,11 @@ add-t12 c = search needs
 
 returns : tie.Need-returns
 returns c =
-    let start = c .before .before .before .before .before .before in
+    let at-is-zero = c .before .before in
+    let start = entry at-is-zero in
     let x = start .args in
     let p = start .pre in
-    let f = found-none p (c .before .before .is-zero .ensures) (c .before .if1 .taken) in (
+    let f = found-none p (at-is-zero .is-zero .ensures) (c .before .if1 .taken) in (
       omega (arith, ap length f),
       refl,
       written-to [] _ (written-none _ _) (sym (ap (listed (take (x .h .k) (x .begun .now))) f ∙ listed-none (take (x .h .k) (x .begun .now)))),
@@ -32,7 +37,7 @@ returns c =
 
 mul-put : tie.Need-mul-put
 mul-put c =
-    let start = c .before .before .before .before .before in
+    let start = entry (c .before) in
     let x = start .args in
     let p = start .pre in
     let f = found-one p (c .before .is-zero .ensures) (c .if1 .left) in
@@ -40,17 +45,18 @@ mul-put c =
 
 put-requires : tie.Need-put-requires
 put-requires c κs =
-    let start = c .before .before .before .before .before .before in
+    let at-is-zero = c .before .before in
+    let start = entry at-is-zero in
     let x = start .args in
     let p = start .pre in
-    let f = found-one p (c .before .before .is-zero .ensures) (c .before .if1 .left) in
+    let f = found-one p (at-is-zero .is-zero .ensures) (c .before .if1 .left) in
     (p .beginning, room-one (x .t .found) (x .h .k) _ _ f (p .room))
 
 add-t14 : tie.Need-add-t14
 add-t14 c =
     let at-if1 = c .before .before .before .before in
     let at-is-zero = at-if1 .before in
-    let start = at-is-zero .before .before .before .before in
+    let start = entry at-is-zero in
     let x = start .args in
     let p = start .pre in
     let f = found-one p (at-is-zero .is-zero .ensures) (at-if1 .if1 .left) in
@@ -66,7 +72,7 @@ returns-2 : tie.Need-returns-2
 returns-2 c =
     let at-if1 = c .before .before .before .before .before in
     let at-is-zero = at-if1 .before in
-    let start = at-is-zero .before .before .before .before in
+    let start = entry at-is-zero in
     let x = start .args in
     let p = start .pre in
     let f = found-one p (at-is-zero .is-zero .ensures) (at-if1 .if1 .left) in (

@@ -20,7 +20,11 @@ same-length-3 : tie.Need-same-length-3
 same-length-3 c = search needs
 
 returns : tie.Need-returns
-returns c = list-told _ _ (c .before .before .before .before .before .before .before .before .list .ensures) (c .before .before .tell-two .ensures)
+returns c =
+    let at-tell-two = c .before .before in
+    let at-work = at-tell-two .before .before .before in
+    let at-list = at-work .before .before .before in
+    list-told _ _ (at-list .list .ensures) (at-tell-two .tell-two .ensures)
 
 pub whitebeamish-list-spec : {M : Type 1} → statement M
 whitebeamish-list-spec =

@@ -23,6 +23,10 @@ Inv-loop q k w l alpha n xs y leads₀ work₀ a₀ leads work a =
 abbrev μ-loop : tie.MeasureT-loop
 μ-loop q k w l alpha n xs y leads₀ work₀ a₀ leads work a = n - a
 
+-- the start, as the loop looks back to it
+abbrev entry : tie.At-loop Inv-loop μ-loop → tie.Start Inv-loop μ-loop
+entry c = c .before .before .before .before .before
+
 loop-holds : tie.Need-loop-holds Inv-loop μ-loop
 loop-holds c = (search needs, search needs, search needs, c .before .before .before .before .pre .5, λ r b m X Y. along-none _ _ _ _ _ r m b _ _)
 
@@ -47,7 +51,7 @@ part-condition-end c = search needs
 condition-requires : tie.Need-condition-requires Inv-loop μ-loop
 condition-requires c κs =
     let at-loop = c .before .before .before .before in
-    let start = at-loop .before .before .before .before .before in
+    let start = entry at-loop in
     let a = start .args in
     let o = at-loop .loop in
     let p = start .pre in (
@@ -69,9 +73,8 @@ loop-again : tie.Need-loop-again Inv-loop μ-loop
 loop-again c =
     let at-condition = c .before .before .before .before in
     let at-loop = at-condition .before .before .before .before .before in
-    let start = at-loop .before .before .before .before .before in
     let o = at-loop .loop in
-    let p = start .pre in
+    let p = entry at-loop .pre in
     let d = at-condition .condition in (
       search needs,
       d .kept .1 .1 .1 .1 .1 .1 .1 .0 ∙ o .inv .1,
@@ -89,9 +92,8 @@ same-length-2 c = search needs
 
 returns : tie.Need-returns Inv-loop μ-loop
 returns c =
-    let start = c .before .before .before .before .before .before in
     let o = c .before .loop in
-    let z : o .a ≡ start .args .n = omega arith in
+    let z : o .a ≡ entry (c .before) .args .n = omega arith in
     (o .inv .3, λ r b m X Y. rw z at (o .inv .4 r b m X Y))
 
 pub along-spec : {M : Type 1} → statement M

@@ -23,6 +23,10 @@ Inv-loop q k w l alpha m xs ys leads₀ work₀ b₀ leads work b =
 abbrev μ-loop : tie.MeasureT-loop
 μ-loop q k w l alpha m xs ys leads₀ work₀ b₀ leads work b = m - b
 
+-- the start, as the loop looks back to it
+abbrev entry : tie.At-loop Inv-loop μ-loop → tie.Start Inv-loop μ-loop
+entry c = c .before .before .before .before .before
+
 loop-holds : tie.Need-loop-holds Inv-loop μ-loop
 loop-holds c = (search needs, search needs, search needs, c .before .before .before .before .pre .5, λ r X Y. orders-none _ _ _ _ _ r _ _ _)
 
@@ -53,7 +57,7 @@ part-along-end c = search needs
 along-requires : tie.Need-along-requires Inv-loop μ-loop
 along-requires c κs =
     let at-loop = c .before .before .before .before in
-    let start = at-loop .before .before .before .before .before in
+    let start = entry at-loop in
     let a = start .args in
     let o = at-loop .loop in
     let p = start .pre in
@@ -77,7 +81,7 @@ loop-again : tie.Need-loop-again Inv-loop μ-loop
 loop-again c =
     let at-along = c .before .before .before .before in
     let at-loop = at-along .before .before .before .before .before in
-    let start = at-loop .before .before .before .before .before in
+    let start = entry at-loop in
     let a = start .args in
     let o = at-loop .loop in
     let p = start .pre in
@@ -98,9 +102,8 @@ same-length-2 c = search needs
 
 returns : tie.Need-returns Inv-loop μ-loop
 returns c =
-    let start = c .before .before .before .before .before .before in
     let o = c .before .loop in
-    let z : o .b ≡ start .args .m = omega arith in
+    let z : o .b ≡ entry (c .before) .args .m = omega arith in
     (o .inv .3, λ r X Y. orders-all _ _ _ _ _ r _ (rw z at (o .inv .4 r X Y)))
 
 pub by-weights-spec : {M : Type 1} → statement M

@@ -36,7 +36,8 @@ same-length-2 c = search needs
 returns : tie.Need-returns
 returns c =
     let at-by-weights = c .before .before .before .before in
-    let at-weigh-all2 = at-by-weights .before .before .before .before .before .before in
+    let at-ys3 = at-by-weights .before .before .before in
+    let at-weigh-all2 = at-ys3 .before .before .before in
     let at-weigh-all = at-weigh-all2 .before .before .before in
     let start = at-weigh-all .before .before .before .before in
     let d = at-by-weights .by-weights .ensures in

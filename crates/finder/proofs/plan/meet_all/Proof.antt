@@ -22,9 +22,16 @@ Inv-loop q k w l points word times leads₀ work₀ j₀ leads work j =
 abbrev μ-loop : tie.MeasureT-loop
 μ-loop q k w l points word times leads₀ work₀ j₀ leads work j = length points - j
 
+-- the places that answers look back to: the start from before the loop, and the loop from where its triple is read
+abbrev entry : tie.After-slice-known2 Inv-loop μ-loop → tie.Start Inv-loop μ-loop
+entry c = c .before .before .before .before .before
+
+abbrev turn : tie.After-shared-slice-known6 Inv-loop μ-loop → tie.At-loop Inv-loop μ-loop
+turn c = c .before .before .before .before
+
 loop-holds : tie.Need-loop-holds Inv-loop μ-loop
 loop-holds c =
-    let start = c .before .before .before .before .before in (
+    let start = entry c in (
       search needs,
       search needs,
       search needs,
@@ -41,7 +48,7 @@ shared-slice-read-m c = search needs
 
 cast-m : tie.Need-cast-m Inv-loop μ-loop
 cast-m c =
-    let start = c .before .before .before .before .before .before .before .before in
+    let start = entry (c .before .before .before) in
     omega (arith, start .pre .3 (c .before .before .loop .j) (omega (arith, start .pre .2)))
 
 mul-meet : tie.Need-mul-meet Inv-loop μ-loop
@@ -58,10 +65,9 @@ shared-slice-read-meet-2 c = search needs
 
 meet-requires : tie.Need-meet-requires Inv-loop μ-loop
 meet-requires c κs =
-    let at-loop = c .before .before .before .before .before .before in
-    let start = at-loop .before .before .before .before .before .before in
+    let at-loop = turn (c .before .before) in
     let o = at-loop .loop in
-    let p = start .pre in
+    let p = entry (at-loop .before) .pre in
     (p .0, p .3 (o .j) (omega (arith, p .2)), omega (arith, p .4, o .inv .1), o .inv .3, omega (arith, p .6, o .inv .2))
 
 add-j : tie.Need-add-j Inv-loop μ-loop
@@ -73,10 +79,9 @@ loop-less c = search needs
 loop-again : tie.Need-loop-again Inv-loop μ-loop
 loop-again c =
     let at-meet = c .before .before .before .before in
-    let at-loop = at-meet .before .before .before .before .before .before .before in
-    let start = at-loop .before .before .before .before .before .before in
+    let at-loop = turn (at-meet .before .before .before) in
     let o = at-loop .loop in
-    let p = start .pre in
+    let p = entry (at-loop .before) .pre in
     let d = at-meet .meet in (
       search needs,
       d .kept .1 .1 .1 .1 .1 .1 .1 .0 ∙ o .inv .1,
@@ -93,8 +98,8 @@ same-length-2 c = search needs
 
 returns : tie.Need-returns Inv-loop μ-loop
 returns c =
-    let start = c .before .before .before .before .before .before .before in
-    let o = c .before .loop in (o .inv .3, triples-all _ _ _ _ _ _ _ (o .j) (start .pre .1) (start .pre .2) (omega arith) (o .inv .4))
+    let p = entry (c .before .before) .pre in
+    let o = c .before .loop in (o .inv .3, triples-all _ _ _ _ _ _ _ (o .j) (p .1) (p .2) (omega arith) (o .inv .4))
 
 pub meet-all-spec : {M : Type 1} → statement M
 meet-all-spec =

@@ -2,6 +2,8 @@
 use mathlib.Core.Path.{_≡_, ap}
 use Prim.Native.Nat.{ℕ, _+_, _-_, _*_, _<_, _≤_}
 use lib.ListN.{length}
+use borrow.Rule.Slice.PartMut.{putMid}
+use Rattle.buffers.specs.Change.{Changed}
 use Rattle.buffers.proofs.Rows.{row-end}
 use Rattle.buffers.proofs.Change.{changed-front}
 use Rattle.finder.specs.Slot.{slot, place}
@@ -19,6 +21,29 @@ Inv-loop q k w l work₀ s e j₀ at₀ work j at = (j ≤ l + 1) × (at ≡ j *
 abbrev μ-loop : tie.MeasureT-loop
 μ-loop q k w l work₀ s e j₀ at₀ work j at = l + 1 - j
 
+-- the start, as the loop looks back to it past clear
+abbrev entry : tie.At-loop Inv-loop μ-loop → tie.Start Inv-loop μ-loop
+entry c =
+    let at-clear = c .before .before .before in
+    at-clear .before .before .before .before
+
+-- the room of all slots is as large as the definition has it
+rooms : (c : tie.After-room Inv-loop μ-loop) → let a = c .before .before .args in (a .l + 1) * c .room .result ≡ (a .l + 1) * slot (a .w) (a .l)
+rooms c = ap (λ (x : ℕ). (c .before .before .args .l + 1) * x) (c .room .ensures)
+
+-- all of it is cleared
+blank : (c : tie.After-clear Inv-loop μ-loop) →
+    let d = c .before .before .before .before .args .work .now in
+    let e = (c .before .before .before .before .args .l + 1) * c .before .before .room .result in
+    Changed (λ k. 0) 0 e d (putMid 0 (e - 0) d (c .clear .last .0))
+blank c = cleared _ _ _ (omega (arith, rooms (c .before .before))) (c .clear .ensures)
+
+-- in a turn, the place of the curve's one is inside
+inside : (c : tie.In-loop Inv-loop μ-loop) → c .before .loop .at < length (c .before .loop .work)
+inside c =
+    let o = c .before .loop in
+    omega (arith, o .inv .1, seed-inside _ _ _ (entry (c .before) .pre .0 .some) (omega arith) (o .inv .3) (o .inv .4))
+
 room-requires : tie.Need-room-requires Inv-loop μ-loop
 room-requires c κs = search needs
 
@@ -26,7 +51,7 @@ add-e : tie.Need-add-e Inv-loop μ-loop
 add-e c = search needs
 
 mul-e : tie.Need-mul-e Inv-loop μ-loop
-mul-e c = omega (arith, ap (λ (x : ℕ). (c .before .before .args .l + 1) * x) (c .room .ensures))
+mul-e c = omega (arith, rooms c)
 
 sub-clear : tie.Need-sub-clear Inv-loop μ-loop
 sub-clear c = search needs
@@ -35,47 +60,30 @@ part-clear-start : tie.Need-part-clear-start Inv-loop μ-loop
 part-clear-start c = search needs
 
 part-clear-end : tie.Need-part-clear-end Inv-loop μ-loop
-part-clear-end c = omega (arith, ap (λ (x : ℕ). (c .before .before .args .l + 1) * x) (c .room .ensures))
+part-clear-end c = omega (arith, rooms c)
 
 clear-requires : tie.Need-clear-requires Inv-loop μ-loop
 clear-requires c κs = search needs
 
 loop-holds : tie.Need-loop-holds Inv-loop μ-loop
 loop-holds c =
-    let at-room = c .before .before .before .before in
-    let start = at-room .before .before in
-    let a = start .args in
-    let r = ap (λ (x : ℕ). (a .l + 1) * x) (at-room .room .ensures) in
-    let d = cleared ((a .l + 1) * at-room .room .result) (a .work .now) (c .before .before .clear .last .0) (omega arith) (c .before .before .clear .ensures) in
-    (search needs, search needs, at-room .room .ensures, omega (arith, d .len), seeded-none _ _ _)
+    let at-clear = c .before .before in
+    let at-room = at-clear .before .before in
+    (search needs, search needs, at-room .room .ensures, omega (arith, blank at-clear .len), seeded-none _ _ _)
 
 mul-work : tie.Need-mul-work Inv-loop μ-loop
 mul-work c =
-    let start = c .before .before .before .before .before .before .before .before in
-    let o = c .before .loop in
-    let b : o .at < length (o .work) = omega (arith, o .inv .1, seed-inside _ _ _ (start .pre .0 .some) (omega arith) (o .inv .3) (o .inv .4)) in
+    let b = inside c in
     search needs
 
 slice-write-work : tie.Need-slice-write-work Inv-loop μ-loop
-slice-write-work c =
-    let start = c .before .before .before .before .before .before .before .before in
-    let o = c .before .loop in
-    let b : o .at < length (o .work) = omega (arith, o .inv .1, seed-inside _ _ _ (start .pre .0 .some) (omega arith) (o .inv .3) (o .inv .4)) in
-    b
+slice-write-work c = inside c
 
 add-at : tie.Need-add-at Inv-loop μ-loop
-add-at c =
-    let start = c .before .before .before .before .before .before .before .before in
-    let o = c .before .loop in
-    let b : o .at < length (o .work) = omega (arith, o .inv .1, seed-inside _ _ _ (start .pre .0 .some) (omega arith) (o .inv .3) (o .inv .4)) in
-    omega (arith, slot-small (start .pre .0))
+add-at c = omega (arith, inside c, slot-small (entry (c .before) .pre .0))
 
 add-at-2 : tie.Need-add-at-2 Inv-loop μ-loop
-add-at-2 c =
-    let start = c .before .before .before .before .before .before .before .before in
-    let o = c .before .loop in
-    let b : o .at < length (o .work) = omega (arith, o .inv .1, seed-inside _ _ _ (start .pre .0 .some) (omega arith) (o .inv .3) (o .inv .4)) in
-    omega (arith, slot-small (start .pre .0))
+add-at-2 c = omega (arith, inside c, slot-small (entry (c .before) .pre .0))
 
 add-j : tie.Need-add-j Inv-loop μ-loop
 add-j c = search needs
@@ -85,10 +93,10 @@ loop-less c = search needs
 
 loop-again : tie.Need-loop-again Inv-loop μ-loop
 loop-again c =
-    let start = c .before .before .before .before .before .before .before .before in
+    let start = entry (c .before) in
     let a = start .args in
     let o = c .before .loop in
-    let b : o .at < length (o .work) = omega (arith, o .inv .1, seed-inside _ _ _ (start .pre .0 .some) (omega arith) (o .inv .3) (o .inv .4)) in (
+    let b = inside c in (
       search needs,
       omega (arith, row-end (o .j) (slot (a .w) (a .l)), row-end (o .j) (a .w)),
       o .inv .2,
@@ -99,24 +107,15 @@ loop-again c =
 same-length : tie.Need-same-length Inv-loop μ-loop
 same-length c =
     let at-clear = c .before .before .before .before in
-    let at-room = at-clear .before .before in
-    let start = at-room .before .before in
-    let a = start .args in
-    let r = ap (λ (x : ℕ). (a .l + 1) * x) (at-room .room .ensures) in
-    let d = cleared ((a .l + 1) * at-room .room .result) (a .work .now) (at-clear .clear .last .0) (omega arith) (at-clear .clear .ensures) in
-    omega (arith, d .len, c .before .loop .inv .4 .len)
+    omega (arith, blank at-clear .len, c .before .loop .inv .4 .len)
 
 returns : tie.Need-returns Inv-loop μ-loop
 returns c =
     let at-clear = c .before .before .before .before in
-    let at-room = at-clear .before .before in
-    let start = at-room .before .before in
-    let a = start .args in
     let o = c .before .loop in
-    let r = ap (λ (x : ℕ). (a .l + 1) * x) (at-room .room .ensures) in
-    let d = cleared ((a .l + 1) * at-room .room .result) (a .work .now) (at-clear .clear .last .0) (omega arith) (at-clear .clear .ensures) in
-    let z : o .j ≡ a .l + 1 = omega arith in
-    seeded-started _ _ _ (rw z at (o .inv .4)) (λ m u. changed-front d m (omega arith))
+    let r = rooms (at-clear .before .before) in
+    let z : o .j ≡ entry (c .before) .args .l + 1 = omega arith in
+    seeded-started _ _ _ (rw z at (o .inv .4)) (λ m u. changed-front (blank at-clear) m (omega arith))
 
 pub start-spec : {M : Type 1} → statement M
 start-spec =

@@ -1,7 +1,7 @@
 -- condition: where no alive curve misses it nothing changes, and otherwise the pivot makes the step.
 use mathlib.Core.Path.{ap}
 use mathlib.Core.Logic.{⊎-elim}
-use Prim.Native.Nat.{ℕ, _+_, _*_}
+use Prim.Native.Nat.{ℕ, _+_, _*_, _≤_}
 use lib.ListN.{length-set}
 use lib.Seq.{getD-set-same}
 use Rattle.buffers.proofs.Change.{changed-front}
@@ -14,12 +14,40 @@ use borrow.Author.Needs.{needs}
 use Rattle.finder.proofs.step.condition.Statement.{statement}
 use Rattle.finder.proofs.step.condition.Tie as tie
 
+-- the places that answers look back to: the start from the call of evaluate, that call and the start from the pivot, the pivot's test from raise
+abbrev entry : tie.After-values → tie.Start
+entry c =
+    let at-slices = c .before .before .before in
+    at-slices .before .before .before .before
+
+abbrev evaluated : tie.After-pivot → tie.After-evaluate
+evaluated c = c .before .before .before .before
+
+abbrev begun : tie.After-pivot → tie.Start
+begun c = entry (evaluated c .before)
+
+abbrev chosen : tie.After-raise-arg → tie.Then1
+chosen c =
+    let at-sweep = c .before .before .before .before in
+    at-sweep .before .before .before .before
+
+-- the pivot's slot ends within the room of all slots
+inside : (c : tie.After-raise-arg) →
+    let a = begun (chosen c .before) .args in
+    let p = chosen c .before .pivot .result in
+    p * c .before .room .result + slot (a .w) (a .l) ≤ (a .l + 1) * slot (a .w) (a .l)
+inside c =
+    let at-if1 = chosen c in
+    let a = begun (at-if1 .before) .args in
+    let p = at-if1 .before .pivot .result in
+    omega (arith, ap (λ (x : ℕ). p * x) (c .before .room .ensures), row-fits {t = p} {n = a .l + 1} (slot (a .w) (a .l)) (omega (arith, at-if1 .if1 .taken)))
+
 slice-aggregate-evaluate : tie.Need-slice-aggregate-evaluate
 slice-aggregate-evaluate c = search needs
 
 evaluate-requires : tie.Need-evaluate-requires
 evaluate-requires c κs =
-    let start = c .before .before .before .before .before .before .before in
+    let start = entry c in
     (start .pre .0, start .pre .1, start .pre .2, start .pre .3, start .pre .4, start .pre .5, omega (arith, start .pre .0 .few))
 
 slice-aggregate-pivot : tie.Need-slice-aggregate-pivot
@@ -28,7 +56,7 @@ slice-aggregate-pivot c = search needs
 pivot-requires : tie.Need-pivot-requires
 pivot-requires c κs =
     let at-evaluate = c .before .before .before in
-    let start = at-evaluate .before .before .before .before .before .before .before .before in
+    let start = entry (at-evaluate .before) in
     (start .pre .0, start .pre .3, omega (arith, start .pre .0 .few, at-evaluate .evaluate .ensures .len), start .pre .4)
 
 mul-inv : tie.Need-mul-inv
@@ -39,8 +67,8 @@ array-read-inv c = search needs
 
 inv-requires : tie.Need-inv-requires
 inv-requires c κs =
-    let at-evaluate = c .before .before .before .before .before in
-    let start = at-evaluate .before .before .before .before .before .before .before .before in
+    let at-evaluate = evaluated (c .before) in
+    let start = entry (at-evaluate .before) in
     let a = start .args in
     let p = c .before .pivot .result in (
       start .pre .0 .field,
@@ -60,8 +88,8 @@ slice-aggregate-sweep c = search needs
 sweep-requires : tie.Need-sweep-requires
 sweep-requires c κs =
     let at-if1 = c .before .before .before in
-    let at-evaluate = at-if1 .before .before .before .before .before in
-    let start = at-evaluate .before .before .before .before .before .before .before .before in (
+    let at-evaluate = evaluated (at-if1 .before) in
+    let start = entry (at-evaluate .before) in (
       start .pre .0,
       at-if1 .if1 .taken,
       simp length-set (omega (arith, start .pre .0 .few, at-evaluate .evaluate .ensures .len)),
@@ -75,61 +103,38 @@ room-requires c κs = search needs
 
 mul-raise : tie.Need-mul-raise
 mul-raise c =
-    let at-if1 = c .before .before .before .before .before .before .before .before in
-    let at-pivot = at-if1 .before in
-    let start = at-pivot .before .before .before .before .before .before .before .before .before .before .before .before in
-    let a = start .args in
-    let p = at-pivot .pivot .result in
-    omega (
-      arith,
-      start .pre .5,
-      at-if1 .if1 .taken,
-      start .good,
-      ap (λ (x : ℕ). p * x) (c .before .room .ensures),
-      row-fits {t = p} {n = a .l + 1} (slot (a .w) (a .l)) (omega (arith, at-if1 .if1 .taken)),
-    )
+    let start = begun (chosen c .before) in
+    omega (arith, inside c, start .pre .5, start .good)
 
 raise-requires : tie.Need-raise-requires
 raise-requires c κs =
+    let start = begun (chosen c .before) in
     let at-sweep = c .before .before .before .before in
-    let at-if1 = at-sweep .before .before .before .before in
-    let at-pivot = at-if1 .before in
-    let start = at-pivot .before .before .before .before .before .before .before .before .before .before .before .before in
-    let a = start .args in
-    let p = at-pivot .pivot .result in (
-      start .pre .0,
-      omega (
-        arith,
-        start .pre .5,
-        at-sweep .sweep .ensures .len,
-        ap (λ (x : ℕ). p * x) (c .before .room .ensures),
-        row-fits {t = p} {n = a .l + 1} (slot (a .w) (a .l)) (omega (arith, at-if1 .if1 .taken)),
-      ),
-    )
+    (start .pre .0, omega (arith, inside c, start .pre .5, at-sweep .sweep .ensures .len))
 
 mul-leads : tie.Need-mul-leads
 mul-leads c =
-    let at-if1 = c .before .before .before .before .before .before .before .before .before .before .before in
-    let start = at-if1 .before .before .before .before .before .before .before .before .before .before .before .before .before in
+    let at-if1 = chosen (c .before .before .before) in
+    let start = begun (at-if1 .before) in
     omega (arith, at-if1 .if1 .taken, start .pre .0 .few)
 
 slice-read-leads : tie.Need-slice-read-leads
 slice-read-leads c =
-    let at-if1 = c .before .before .before .before .before .before .before .before .before .before .before .before in
-    let start = at-if1 .before .before .before .before .before .before .before .before .before .before .before .before .before in
+    let at-if1 = chosen (c .before .before .before .before) in
+    let start = begun (at-if1 .before) in
     omega (arith, at-if1 .if1 .taken, start .pre .3)
 
 add-leads : tie.Need-add-leads
 add-leads c =
-    let at-if1 = c .before .before .before .before .before .before .before .before .before .before .before .before in
+    let at-if1 = chosen (c .before .before .before .before) in
     let at-pivot = at-if1 .before in
-    let start = at-pivot .before .before .before .before .before .before .before .before .before .before .before .before in
+    let start = begun at-pivot in
     omega (arith, start .pre .4 (at-pivot .pivot .result) (at-if1 .if1 .taken), start .pre .0 .narrow)
 
 slice-write-leads : tie.Need-slice-write-leads
 slice-write-leads c =
-    let at-if1 = c .before .before .before .before .before .before .before .before .before .before .before .before in
-    let start = at-if1 .before .before .before .before .before .before .before .before .before .before .before .before .before in
+    let at-if1 = chosen (c .before .before .before .before) in
+    let start = begun (at-if1 .before) in
     omega (arith, at-if1 .if1 .taken, start .pre .3)
 
 same-length : tie.Need-same-length
@@ -146,8 +151,8 @@ returns c =
     let at-inv = at-sweep .before .before .before in
     let at-if1 = at-inv .before in
     let at-pivot = at-if1 .before in
-    let at-evaluate = at-pivot .before .before .before .before in
-    let start = at-evaluate .before .before .before .before .before .before .before .before in
+    let at-evaluate = evaluated at-pivot in
+    let start = entry (at-evaluate .before) in
     let a = start .args in
     let p = at-pivot .pivot .result in
     let v = at-evaluate .evaluate .ensures in
@@ -166,8 +171,8 @@ same-length-4 c = search needs
 
 returns-2 : tie.Need-returns-2
 returns-2 c =
-    let at-evaluate = c .before .before .before .before .before in
-    let start = at-evaluate .before .before .before .before .before .before .before .before in
+    let at-evaluate = evaluated (c .before) in
+    let start = entry (at-evaluate .before) in
     let a = start .args in
     let v = at-evaluate .evaluate .ensures in
     ⊎-elim

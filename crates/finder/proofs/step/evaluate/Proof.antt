@@ -21,6 +21,17 @@ Inv-loop q k w l x y leads work values₀ s j₀ at₀ off₀ values j at off = 
 abbrev μ-loop : tie.MeasureT-loop
 μ-loop q k w l x y leads work values₀ s j₀ at₀ off₀ values j at off = l + 1 - j
 
+-- the start, as the loop looks back to it past room
+abbrev entry : tie.At-loop Inv-loop μ-loop → tie.Start Inv-loop μ-loop
+entry c =
+    let before-room = c .before .before in
+    before-room .before .before .before .before .before
+
+-- in a turn, slot j ends within the room of all slots
+inside : (c : tie.In-loop Inv-loop μ-loop) → let a = entry (c .before) .args in
+    let s = slot (a .w) (a .l) in c .before .loop .j * s + s ≤ (a .l + 1) * s
+inside c = row-fits (slot _ _) (omega arith)
+
 room-requires : tie.Need-room-requires Inv-loop μ-loop
 room-requires c κs = search needs
 
@@ -28,9 +39,7 @@ loop-holds : tie.Need-loop-holds Inv-loop μ-loop
 loop-holds c = (search needs, search needs, search needs, c .room .ensures, changed-none _ _ _)
 
 add-e : tie.Need-add-e Inv-loop μ-loop
-add-e c =
-    let start = c .before .before .before .before .before .before .before .before in
-    omega (arith, start .pre, row-fits {t = c .before .loop .j} {n = start .args .l + 1} (slot (start .args .w) (start .args .l)) (omega arith))
+add-e c = omega (arith, entry (c .before) .pre, inside c)
 
 mul-weight : tie.Need-mul-weight Inv-loop μ-loop
 mul-weight c = search needs
@@ -40,14 +49,13 @@ shared-slice-read-weight c = search needs
 
 add-weight : tie.Need-add-weight Inv-loop μ-loop
 add-weight c =
-    let start = c .before .before .before .before .before .before .before .before .before in
-    omega (arith, start .pre .4 (c .before .before .loop .j) (omega arith))
+    let at-loop = c .before .before in
+    omega (arith, entry at-loop .pre .4 (at-loop .loop .j) (omega arith))
 
 mul-value : tie.Need-mul-value Inv-loop μ-loop
 mul-value c =
-    let at-loop = c .before .before .before in
-    let start = at-loop .before .before .before .before .before .before .before in
-    omega (arith, start .pre, start .good, row-fits {t = at-loop .loop .j} {n = start .args .l + 1} (slot (start .args .w) (start .args .l)) (omega arith))
+    let start = entry (c .before .before .before) in
+    omega (arith, start .pre, start .good, inside (c .before .before))
 
 sub-value : tie.Need-sub-value Inv-loop μ-loop
 sub-value c = search needs
@@ -56,23 +64,19 @@ part-value-start : tie.Need-part-value-start Inv-loop μ-loop
 part-value-start c = search needs
 
 part-value-end : tie.Need-part-value-end Inv-loop μ-loop
-part-value-end c =
-    let at-loop = c .before .before .before in
-    let start = at-loop .before .before .before .before .before .before .before in
-    omega (arith, start .pre, row-fits {t = at-loop .loop .j} {n = start .args .l + 1} (slot (start .args .w) (start .args .l)) (omega arith))
+part-value-end c = omega (arith, entry (c .before .before .before) .pre, inside (c .before .before))
 
 value-requires : tie.Need-value-requires Inv-loop μ-loop
 value-requires c κs =
     let at-loop = c .before .before .before .before in
-    let at-room = at-loop .before in
-    let start = at-room .before .before .before .before .before .before in
+    let start = entry at-loop in
     let a = start .args in
     let o = at-loop .loop in
-    let f = row-fits {t = o .j} {n = a .l + 1} (slot (a .w) (a .l)) (omega arith) in (
+    let f = inside (c .before .before .before) in (
       start .pre .0,
       start .pre .1,
       start .pre .2,
-      len-mid (o .at) (o .at + at-room .room .result - o .at) (a .work .now) (omega (arith, start .pre)) ∙ omega arith,
+      len-mid (o .at) (o .at + at-loop .before .room .result - o .at) (a .work .now) (omega (arith, start .pre)) ∙ omega arith,
     )
 
 mul-values : tie.Need-mul-values Inv-loop μ-loop
@@ -87,7 +91,7 @@ sub-off c = search needs
 add-off : tie.Need-add-off Inv-loop μ-loop
 add-off c =
     let at-loop = c .before .before .before in
-    let start = at-loop .before .before .before .before .before .before .before in
+    let start = entry at-loop in
     omega (arith, row-inside (start .args .k) (start .args .w) (start .args .l) (at-loop .loop .j) (start .pre .0 .fits) (omega arith))
 
 add-j : tie.Need-add-j Inv-loop μ-loop
@@ -99,7 +103,7 @@ loop-less c = search needs
 loop-again : tie.Need-loop-again Inv-loop μ-loop
 loop-again c =
     let at-loop = c .before .before .before in
-    let start = at-loop .before .before .before .before .before .before .before in
+    let start = entry at-loop in
     let a = start .args in
     let o = at-loop .loop in (
       search needs,

@@ -10,12 +10,18 @@ use borrow.Author.Needs.{needs}
 use Rattle.reader.proofs.sifting.keep.Statement.{statement}
 use Rattle.reader.proofs.sifting.keep.Tie as tie
 
+-- the start, as the score looks back to it
+abbrev entry : tie.After-score → tie.Start
+entry c =
+    let at-slices = c .before in
+    at-slices .before .before .before .before .before
+
 score-requires : tie.Need-score-requires
 score-requires c κs = search needs
 
 returns : tie.Need-returns
 returns c =
-    let x = c .before .before .before .before .before .before .before .args in
+    let x = entry (c .before) .args in
     let no-more = ap (leb (x .m)) (sym (c .before .score .ensures)) ∙ lt-leb (x .m) _ (c .if1 .taken) in
     record { number = simp no-more; written = simp no-more }
 
@@ -49,7 +55,7 @@ same-length c = search needs
 returns-2 : tie.Need-returns-2
 returns-2 c =
     let b = c .before .before .before .before in
-    let x = b .before .before .before .before .before .before .before .args in
+    let x = entry (b .before) .args in
     let n = length (x .message .now) in
     let a = x .kept * n in
     let enough = ap (leb (x .m)) (sym (b .before .score .ensures)) ∙ le-leb (x .m) _ (b .if1 .left) in

@@ -18,8 +18,12 @@ Inv-loop q message points word times sum₀ j₀ sum j =
 abbrev μ-loop : tie.MeasureT-loop
 μ-loop q message points word times sum₀ j₀ sum j = length points - j
 
+-- the start, as the loop and a turn of it look back to it
+abbrev begun : tie.At-loop Inv-loop μ-loop → tie.Start Inv-loop μ-loop
+begun c = c .before .before .before .before .before
+
 abbrev entry : tie.In-loop Inv-loop μ-loop → tie.Start Inv-loop μ-loop
-entry c = c .before .before .before .before .before .before
+entry c = begun (c .before)
 
 -- the multiplicity in hand
 few : (c : tie.In-loop Inv-loop μ-loop) → getD (entry c .args .times .now) (c .before .loop .j) 0 ≤ 4
@@ -79,7 +83,7 @@ loop-again c =
 
 returns : tie.Need-returns Inv-loop μ-loop
 returns c =
-    let x = c .before .before .before .before .before .before .args in
+    let x = begun (c .before) .args in
     let l = c .before .loop in
     omega (arith, l .inv .2, behind-none (x .q) (x .points .now) (x .word .now) (x .times .now) (x .message .now) (l .j) (omega arith))
 

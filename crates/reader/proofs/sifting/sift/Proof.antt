@@ -19,8 +19,14 @@ Inv-loop q k m count found points word times output₀ kept₀ i₀ output kept 
 abbrev μ-loop : tie.MeasureT-loop
 μ-loop q k m count found points word times output₀ kept₀ i₀ output kept i = count - i
 
+-- the start, as the loop and a turn of it look back to it
+abbrev begun : tie.At-loop Inv-loop μ-loop → tie.Start Inv-loop μ-loop
+begun c =
+    let at-slices = c .before in
+    at-slices .before .before .before .before .before
+
 abbrev entry : tie.In-loop Inv-loop μ-loop → tie.Start Inv-loop μ-loop
-entry c = c .before .before .before .before .before .before .before
+entry c = begun (c .before)
 
 -- the message in hand, as the code cuts it, lies within those found
 abbrev message : tie.In-loop Inv-loop μ-loop → List ℕ
@@ -94,7 +100,7 @@ same-length c = search needs
 returns : tie.Need-returns Inv-loop μ-loop
 returns c =
     let l = c .before .loop in
-    let e : l .i ≡ c .before .before .before .before .before .before .before .args .count = omega arith in
+    let e : l .i ≡ begun (c .before) .args .count = omega arith in
     rw (← e) (l .inv .3)
 
 pub sift-spec : {M : Type 1} → statement M

@@ -12,8 +12,11 @@ use borrow.Author.Needs.{needs}
 use Rattle.reader.proofs.word.find.Statement.{statement}
 use Rattle.reader.proofs.word.find.Tie as tie
 
-abbrev entry : tie.After-find → tie.Start
-entry c = c .before .before .before .before .before .before .before .before .before
+-- the start, as the call of the finder looks back to it
+abbrev entry : tie.After-find-arg3 → tie.Start
+entry c =
+    let at-times = c .before .before .before in
+    at-times .before .before .before .before .before
 
 -- the curve and the room as the finder leaves them
 abbrev curve : tie.After-find → List ℕ
@@ -30,7 +33,7 @@ part-find-end c = search needs
 
 find-requires : tie.Need-find-requires
 find-requires c κs =
-    let h = c .before .before .before .before .before .before .before .before .pre in
+    let h = entry c .pre in
     (checkable (h .worded) _ (h .whole), h .slots, rw (conditions-are (h .worded)) (h .enough))
 
 clear-requires : tie.Need-clear-requires
@@ -44,16 +47,18 @@ same-length-2 c = search needs
 
 returns : tie.Need-returns
 returns c =
-    let b = c .before .before .before .before .before .before .before .before in
-    let x = entry b .args in
-    let h = entry b .pre in
-    let f = b .find .ensures in
-    let kept = b .find .kept .1 .1 .1 .1 .1 .1 .1 in
+    let at-clear = c .before .before in
+    let at-work = at-clear .before .before .before in
+    let at-find = at-work .before .before .before in
+    let x = entry (at-find .before) .args in
+    let h = entry (at-find .before) .pre in
+    let f = at-find .find .ensures in
+    let kept = at-find .find .kept .1 .1 .1 .1 .1 .1 .1 in
     record {
       whole = kept .0 ∙ h .whole;
       small = f .small;
-      passing = subst (λ zs. T (passes (ops (x .q)) (x .k) (x .w) (x .l) zs (curve b))) (times-triples (h .worded)) (f .passing);
-      cleared = all-clear (c .before .before .clear .ensures) ∙ ap (λ (n : ℕ). replicate n 0) (kept .1 .0);
+      passing = subst (λ zs. T (passes (ops (x .q)) (x .k) (x .w) (x .l) zs (curve at-find))) (times-triples (h .worded)) (f .passing);
+      cleared = all-clear (at-clear .clear .ensures) ∙ ap (λ (n : ℕ). replicate n 0) (kept .1 .0);
     }
 
 pub find-spec : {M : Type 1} → statement M

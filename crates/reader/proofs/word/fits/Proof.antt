@@ -7,6 +7,10 @@ use borrow.Author.Needs.{needs}
 use Rattle.reader.proofs.word.fits.Statement.{statement}
 use Rattle.reader.proofs.word.fits.Tie as tie
 
+-- the start, as the call of passes looks back to it
+abbrev entry : tie.After-passes-arg → tie.Start
+entry c = c .before .before .before .before .before
+
 sub-passes : tie.Need-sub-passes
 sub-passes c = search needs
 
@@ -18,12 +22,12 @@ part-passes-end c = search needs
 
 passes-requires : tie.Need-passes-requires
 passes-requires c κs =
-    let h = c .before .before .before .before .before .pre in
+    let h = entry c .pre in
     (checkable (h .0) _ (h .1), h .2)
 
 returns : tie.Need-returns
 returns c =
-    let start = c .before .before .before .before .before .before in
+    let start = entry (c .before) in
     let x = start .args in
     c .passes .ensures ∙ ap (λ zs. passes (ops (x .q)) (x .k) (x .w) (x .l) zs (x .curve .now)) (times-triples (start .pre .0))
 

@@ -11,18 +11,26 @@ use borrow.Author.Needs.{needs}
 use Rattle.reader.proofs.word.list.Statement.{statement}
 use Rattle.reader.proofs.word.list.Tie as tie
 
-abbrev entry : tie.After-search → tie.Start
-entry c = c .before .before .before .before .before .before .before .before
+-- the places that answers look back to: the start from the call of search, and search from the call of sift
+abbrev entry : tie.After-roots → tie.Start
+entry c =
+    let at-slices = c .before .before in
+    at-slices .before .before .before .before .before
+
+abbrev searched : tie.After-sift-arg2 → tie.After-search
+searched c =
+    let at-roots = c .before .before .before in
+    at-roots .before .before .before .before
 
 -- the roots found fit in both buffers
-few : (c : tie.After-search) → c .search .result .found * entry c .args .k ≤ entry c .args .l * entry c .args .k
-few c = few-found (entry c .pre) (c .search .ensures)
+few : (c : tie.After-search) → let x = entry (c .before) .args in c .search .result .found * x .k ≤ x .l * x .k
+few c = few-found (entry (c .before) .pre) (c .search .ensures)
 
 slice-aggregate-search : tie.Need-slice-aggregate-search
 slice-aggregate-search c = search needs
 
 search-requires : tie.Need-search-requires
-search-requires c κs = searchable (c .before .before .before .before .before .before .before .pre) _ refl
+search-requires c κs = searchable (entry c .pre) _ refl
 
 slice-aggregate-sift : tie.Need-slice-aggregate-sift
 slice-aggregate-sift c = search needs
@@ -38,8 +46,8 @@ part-sift-end c = search needs
 
 sift-requires : tie.Need-sift-requires
 sift-requires c κs =
-    let b = c .before .before .before .before .before .before .before in
-    let h = entry b .pre in
+    let b = searched c in
+    let h = entry (b .before) .pre in
     let r = b .search .ensures in
     let long : length (b .search .last .1 .1 .1 .1 .1 .1 .0) ≡ 1536 = b .search .kept .1 .1 .1 .1 .1 .1 .0 in (
       scorable h,
@@ -59,16 +67,19 @@ same-length-2 c = search needs
 
 returns : tie.Need-returns
 returns c =
-    let b = c .before .before .before .before .before .before .before .before .before .before .before .before .before .before in
+    let at-clear = c .before .before in
+    let at-sift = at-clear .before .before .before .before in
+    let b = searched (at-sift .before) in
+    let start = entry (b .before) in
     let r = b .search .ensures in
-    let e = c .before .before .before .before .before .before .sift .ensures in
-    let same = enough-is (entry b .pre) r in
+    let e = at-sift .sift .ensures in
+    let same = enough-is (start .pre) r in
     record {
       refusal = refl;
       found = e .number ∙ ap length same;
       tried = r .tried;
-      written = e .written ∙ ap (λ fs. over (flatten fs) (entry b .args .output .now)) same;
-      cleared = all-clear (c .before .before .clear .ensures) ∙ ap (λ (n : ℕ). replicate n 0) (r .slots);
+      written = e .written ∙ ap (λ fs. over (flatten fs) (start .args .output .now)) same;
+      cleared = all-clear (at-clear .clear .ensures) ∙ ap (λ (n : ℕ). replicate n 0) (r .slots);
     }
 
 pub list-spec : {M : Type 1} → statement M

@@ -7,8 +7,16 @@ use borrow.Author.Needs.{needs}
 use Rattle.reader.proofs.word.read.Statement.{statement}
 use Rattle.reader.proofs.word.read.Tie as tie
 
+-- the places that answers look back to: the start from the curve found, and that from the call of list
 abbrev entry : tie.After-find → tie.Start
-entry c = c .before .before .before .before .before .before .before .before
+entry c =
+    let at-slices = c .before .before .before in
+    at-slices .before .before .before .before .before
+
+abbrev found : tie.After-list-arg3 → tie.After-find
+found c =
+    let at-work = c .before .before .before .before in
+    at-work .before .before .before
 
 -- work is as long as it was
 same-room : (c : tie.After-find) → length (c .find .last .1 .1 .1 .1 .1 .1 .1 .1 .0) ≡ length (entry c .args .work .now)
@@ -19,7 +27,7 @@ find-requires c κs = search needs
 
 list-requires : tie.Need-list-requires
 list-requires c κs =
-    let b = c .before .before .before .before .before .before .before in
+    let b = found c in
     let h = entry b .pre in
     let f = b .find .ensures in
     record {
@@ -44,9 +52,10 @@ same-length-3 c = search needs
 
 returns : tie.Need-returns
 returns c =
-    let b = c .before .before .before .before .before .before .before .before .before .before .before .before in
+    let at-list = c .before .before .before .before in
+    let b = found (at-list .before) in
     let f = b .find .ensures in
-    let e = c .before .before .before .before .list .ensures in
+    let e = at-list .list .ensures in
     let clear = e .cleared ∙ ap (λ (n : ℕ). replicate n 0) (same-room b) in (
       record { whole = f .whole; small = f .small; passing = f .passing; cleared = clear },
       record { refusal = e .refusal; found = e .found; tried = e .tried; written = e .written; cleared = clear },

@@ -17,9 +17,10 @@ copy-within-requires c κs = (inr (omega arith), omega arith, omega arith)
 
 substitute-requires : tie.Need-substitute-requires
 substitute-requires c κs =
-    let start = c .before .before .before .before .before .before in
+    let at-copy-within = c .before .before .before in
+    let start = at-copy-within .before .before .before in
     let p = start .pre in
-    let k = c .before .before .before .copy-within .ensures in
+    let k = at-copy-within .copy-within .ensures in
     (p .0, p .1, omega (arith, k .len), λ j l. rw (k .new j l) (p .6 j l))
 
 add-strip : tie.Need-add-strip
@@ -33,13 +34,14 @@ same-length c = search needs
 
 returns : tie.Need-returns
 returns c =
-    let at-substitute = c .before .before .before .before .before .before in
+    let at-strip = c .before .before in
+    let at-substitute = at-strip .before .before .before .before in
     let at-copy-within = at-substitute .before .before .before .before in
     let start = at-copy-within .before .before .before in
     let x = start .args in
     let p = start .pre in
     nexted (x .q) (p .0) (x .g) (p .1) (x .w) (x .l) (x .a) (p .2) _ _ _ _ (p .4) (p .5) (p .6) (at-copy-within .copy-within .ensures)
-    (at-substitute .substitute .ensures) (c .before .before .strip .ensures)
+    (at-substitute .substitute .ensures) (at-strip .strip .ensures)
 
 pub next-spec : {M : Type 1} → statement M
 next-spec =

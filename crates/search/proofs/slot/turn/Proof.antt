@@ -32,9 +32,10 @@ same-length c = search needs
 
 returns : tie.Need-returns
 returns c =
-    let at-add-within = c .before .before .before .before .before .before in
+    let at-carry = c .before .before in
+    let at-add-within = at-carry .before .before .before .before in
     let start = at-add-within .before .before .before in
-    turned (start .args .l) (start .pre .1) (at-add-within .add-within .ensures) (c .before .before .carry .ensures)
+    turned (start .args .l) (start .pre .1) (at-add-within .add-within .ensures) (at-carry .carry .ensures)
 
 pub turn-spec : {M : Type 1} → statement M
 turn-spec =

@@ -24,13 +24,12 @@ same-length c = search needs
 
 returns : tie.Need-returns
 returns c =
-    rw (
-      c .before .before .put5 .ensures,
-      c .before .before .before .before .before .before .put4 .ensures,
-      c .before .before .before .before .before .before .before .before .before .before .put3 .ensures,
-      c .before .before .before .before .before .before .before .before .before .before .before .before .before .before .put2 .ensures,
-      c .before .before .before .before .before .before .before .before .before .before .before .before .before .before .before .before .before .before .put .ensures,
-    ) (told-five _ _ _ _ _ _)
+    let at-put5 = c .before .before in
+    let at-put4 = at-put5 .before .before .before .before in
+    let at-put3 = at-put4 .before .before .before .before in
+    let at-put2 = at-put3 .before .before .before .before in
+    let at-put = at-put2 .before .before .before .before in
+    rw (at-put5 .put5 .ensures, at-put4 .put4 .ensures, at-put3 .put3 .ensures, at-put2 .put2 .ensures, at-put .put .ensures) (told-five _ _ _ _ _ _)
 
 pub tell-five-spec : {M : Type 1} → statement M
 tell-five-spec =

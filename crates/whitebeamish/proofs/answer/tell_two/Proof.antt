@@ -15,7 +15,9 @@ same-length c = search needs
 
 returns : tie.Need-returns
 returns c =
-    rw (c .before .before .put2 .ensures, c .before .before .before .before .before .before .put .ensures) (told-two _ _ _)
+    let at-put2 = c .before .before in
+    let at-put = at-put2 .before .before .before .before in
+    rw (at-put2 .put2 .ensures, at-put .put .ensures) (told-two _ _ _)
 
 pub tell-two-spec : {M : Type 1} → statement M
 tell-two-spec = tie.close (tie.spec put-requires put-requires-2 same-length returns)
