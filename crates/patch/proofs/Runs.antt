@@ -14,6 +14,7 @@ use borrow.Author.Tests.{not-true, eq-eqb}
 use borrow.Rule.Slice.PartMut.{postOf, putMid}
 use Rattle.rules.specs.Patch.{Held as Holding, nothing, pairs, length-of, length-fits, size, broken, turn, printed}
 use Rattle.rules.proofs.Tests.{either}
+use Rattle.rules.proofs.Film.{two-size}
 use Rattle.parsing.proofs.Shape.{none-stated, too-short, size-unfit, size-fits, whole-long}
 use Rattle.records.specs.declared.Held.{Held}
 use Rattle.records.specs.Holding.{holding, Sound}
@@ -34,10 +35,6 @@ size-front (x ∷ y ∷ b) rest l = refl
 most-size : (b : List ℕ) → size b ≤ 2 + length-of b
 unfolding size
 most-size b = either (λ n. n ≤ 2 + length-of b) (2 + length-of b) 2 (length-fits (length-of b)) (λ _. omega arith) (λ _. omega arith)
-
-two-size : (b : List ℕ) → 2 ≤ size b
-unfolding size
-two-size b = either (λ n. 2 ≤ n) (2 + length-of b) 2 (length-fits (length-of b)) (λ _. omega arith) (λ _. omega arith)
 
 -- what was read is no more than the record, by its first two bytes
 module _ (all part : List ℕ) (n begun want rest : ℕ) where

@@ -9,7 +9,7 @@ use lib.Dec.{T}
 use lib.ListN.{length, take, drop, length-drop}
 use lib.Seq.{sets-eq, take-at}
 use Rattle.rules.specs.Patch.{Held as Holding, nothing, Turn, pairs, length-of, length-fits, size, turn, printed-from, printed}
-use Rattle.rules.proofs.Tests.{either}
+use Rattle.rules.proofs.Film.{two-size}
 use Rattle.text.specs.Wrote.{Wrote}
 use Rattle.records.specs.declared.Held.{Held}
 use Rattle.records.specs.declared.Done.{Done}
@@ -18,10 +18,6 @@ use Rattle.records.specs.Did.{Did, Stepped}
 use Rattle.records.specs.Taken.{Call, Either, Taken, written}
 use Rattle.records.proofs.Holding.{none-kept, turns-are, kept, sound}
 use Rattle.records.proofs.Steps.{turn-possible}
-
-some-size : (b : List ℕ) → 0 < size b
-unfolding size
-some-size b = either (λ n. 0 < n) (2 + length-of b) 2 (length-fits (length-of b)) (λ _. omega arith) (λ _. omega arith)
 
 -- the text at the front of the buffer
 text-of : {t d e : List ℕ} {w : ℕ} → Wrote t 0 d e w → w ≤ length d → take w e ≡ t
@@ -70,7 +66,7 @@ taken-from (suc f) held input (c ∷ calls) s l t = ap₂ _++_ (text-of (did .te
     behind others true e u =
         let go : here .more ≡ true = sym (did .more) ∙ e in
         let some = goes-on i (held-of held) input go in
-        let less : length rest < f = omega (arith, some-size input, length-drop (size input) input) in
+        let less : length rest < f = omega (arith, two-size input, length-drop (size input) input) in
         let next : c .done .held .turns + 1 ≡ suc i = omega (arith, turns-next s (t .0)) in
         others less u ∙ rw (go, next, held-next s (t .0)) refl
     behind others false e u = let stop : here .more ≡ false = sym (did .more) ∙ e in rw (stop, u) refl

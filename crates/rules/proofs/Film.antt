@@ -102,13 +102,13 @@ turn-numbered i held [] stop h e = absurd (omega arith)
 turn-numbered i held (x ∷ bytes) true h e = rw e
 turn-numbered i held (x ∷ bytes) false h e = let b = x ∷ bytes in rw e (whole-numbered i (kind b) held (body b) _ _ _ refl refl refl)
 
-some-size : (b : List ℕ) → 0 < size b
+pub two-size : (b : List ℕ) → 2 ≤ size b
 unfolding size
-some-size b = either (λ n. 0 < n) (2 + length-of b) 2 (length-fits (length-of b)) (λ _. omega arith) (λ _. omega arith)
+two-size b = either (λ n. 2 ≤ n) (2 + length-of b) 2 (length-fits (length-of b)) (λ _. omega arith) (λ _. omega arith)
 
 module _ (b : List ℕ) (w : Whole b) (held : Held) where
   turn-whole : turn 1 held b ≡ record { held = next (kind b) held (body b); text = digits 1 ++ unnumbered held b; more = true }
-  turn-whole = turn-numbered 1 held b false (omega (arith, some-size b, w .1)) (w .0)
+  turn-whole = turn-numbered 1 held b false (omega (arith, two-size b, w .1)) (w .0)
 
   held-whole : turn 1 held b .held ≡ next (kind b) held (body b)
   held-whole = ap (λ t. t .held) turn-whole
@@ -131,14 +131,14 @@ abbrev Points : List ℕ → Type 0
 Points b = (held : Held) → turn 1 held b .held ≡ points-come 1 held (body b) .held
 
 -- whole records behind which points do the same, whether points stood there or not
-abbrev Kept : List (List ℕ) → Type 0
-Kept kept = Each-whole kept × ((b : List ℕ) → Points b → held-after nothing (behind kept b) ≡ turn 1 (held-after nothing kept) b .held)
+abbrev Stand : List (List ℕ) → Type 0
+Stand kept = Each-whole kept × ((b : List ℕ) → Points b → held-after nothing (behind kept b) ≡ turn 1 (held-after nothing kept) b .held)
 
-none-kept : Kept []
+none-kept : Stand []
 unfolding behind held-after points-come missing
 none-kept = (tt, λ b p. sym (p nothing))
 
-behind-kept : (kept : List (List ℕ)) (b : List ℕ) → Each-whole kept → Whole b → Points b → Kept (behind kept b)
+behind-kept : (kept : List (List ℕ)) (b : List ℕ) → Each-whole kept → Whole b → Points b → Stand (behind kept b)
 unfolding behind held-after
 behind-kept [] b v w p = none-kept
 behind-kept (setting ∷ others) b v w p =
@@ -147,14 +147,14 @@ behind-kept (setting ∷ others) b v w p =
       λ c q. q held ∙ sym (points-last held (body b) (body c)) ∙ ap (λ h. points-come 1 h (body c) .held) (sym (p held)) ∙ sym (q (turn 1 held b .held)),
     )
 
-keeping-kept : (kept : List (List ℕ)) (b : List ℕ) (s p : Bool) → Kept kept → Whole b → eqb (kind b) 1 ≡ s → eqb (kind b) 2 ≡ p →
-    (held-after nothing (keeping kept b) ≡ turn 1 (held-after nothing kept) b .held) × Kept (keeping kept b)
+keeping-kept : (kept : List (List ℕ)) (b : List ℕ) (s p : Bool) → Stand kept → Whole b → eqb (kind b) 1 ≡ s → eqb (kind b) 2 ≡ p →
+    (held-after nothing (keeping kept b) ≡ turn 1 (held-after nothing kept) b .held) × Stand (keeping kept b)
 unfolding held-after keeping behind
 keeping-kept kept b true p k w d e = rw d (rw (held-whole b w nothing, held-whole b w (held-after nothing kept), d), ((w, tt), λ c q. refl))
 keeping-kept kept b false true k w d e = let p : Points b = λ h. held-whole b w h ∙ rw (d, e) in rw (d, e) (k .1 b p, behind-kept kept b (k .0) w p)
 keeping-kept kept b false false k w d e = rw (d, e) (sym (held-whole b w (held-after nothing kept) ∙ rw (d, e)), k)
 
-keeping-all : (kept records : List (List ℕ)) → Kept kept → Each-whole records →
+keeping-all : (kept records : List (List ℕ)) → Stand kept → Each-whole records →
     (held-after nothing (foldl keeping kept records) ≡ held-after (held-after nothing kept) records) × Each-whole (foldl keeping kept records)
 unfolding held-after
 keeping-all kept [] k w = (refl, k .0)
@@ -208,7 +208,7 @@ told-from (suc f) i held [] = refl
 told-from (suc f) i held (x ∷ bytes) =
     let input = x ∷ bytes in
     let b = take (size input) input in
-    let h : 0 < length b = omega (arith, some-size input, length-take (size input) input) in
+    let h : 0 < length b = omega (arith, two-size input, length-take (size input) input) in
     let held′ = cond (broken b) held (next (kind b) held (body b)) in
     let rest = drop (size input) input in
     rw (turn-numbered i held b _ h refl, turn-numbered 1 held b _ h refl)
@@ -231,7 +231,7 @@ enough (suc f) zero (x ∷ bytes) l m = absurd (omega arith)
 enough (suc f) (suc g) [] l m = refl
 enough (suc f) (suc g) (x ∷ bytes) l m =
     let input = x ∷ bytes in
-    let q : length (drop (size input) input) ≤ length bytes = omega (arith, some-size input, length-drop (size input) input) in
+    let q : length (drop (size input) input) ≤ length bytes = omega (arith, two-size input, length-drop (size input) input) in
     ap (λ r. take (size input) input ∷ r) (enough f g (drop (size input) input) (omega arith) (omega arith))
 
 first-record : (b rest : List ℕ) → size b ≡ length b → records-of (b ++ rest) ≡ b ∷ records-of rest

@@ -8,8 +8,8 @@ use lib.ListN.{length}
 use mir.Val.{boolByte}
 use Rattle.rules.specs.Setting.{Setting}
 use Rattle.rules.specs.Refusal.{find-refusal}
-use Rattle.rules.specs.Outcome.{Answer, Checked, Derived, Finding, Finds, Listing, used, find-call}
-use Rattle.field.specs.Answer.{answered}
+use Rattle.rules.specs.Outcome.{Computed, Checked, Derived, Finding, Finds, Listing, used, find-call}
+use Rattle.field.specs.Computed.{answered}
 use Rattle.reader.specs.Calls.{checked, finding, listing}
 use Rattle.whitebeamish.specs.Told.{told, number, derived, List-told}
 
@@ -19,8 +19,8 @@ as-number false = refl
 
 module _ (answer : List ℕ) {answer′ : List ℕ} (r : ℕ) where
   -- the symbol s of a field call
-  pub field-told : {s : ℕ} {o : Answer} → answered r s ≡ o → answer′ ≡ told (s ∷ []) answer → (r ≡ o .refusal) × (answer′ ≡ told (o .symbol ∷ []) answer)
-  field-told e t = (ap (λ (o : Answer). o .refusal) e, t ∙ ap (λ (o : Answer). told (o .symbol ∷ []) answer) e)
+  pub field-told : {s : ℕ} {o : Computed} → answered r s ≡ o → answer′ ≡ told (s ∷ []) answer → (r ≡ o .refusal) × (answer′ ≡ told (o .symbol ∷ []) answer)
+  field-told e t = (ap (λ (o : Computed). o .refusal) e, t ∙ ap (λ (o : Computed). told (o .symbol ∷ []) answer) e)
 
   -- yes or no, cast to a number
   pub check-told : (b : Bool) {o : Checked} → checked r b ≡ o → answer′ ≡ told (boolByte b ∷ []) answer → (r ≡ o .refusal) × (answer′ ≡ told (number (o .yes) ∷ []) answer)
