@@ -11,25 +11,31 @@ use Rattle.rules.specs.Setting.{Setting, curve-length}
 use Rattle.rules.specs.Refusal.{long, under, fits}
 use Rattle.rules.specs.Outcome.{Finding, Finds, Reading, Reads, over, usable}
 use Rattle.rules.proofs.Tests.{both}
-use Rattle.reader.specs.Alike.{Alike-found, Alike-read}
+use Rattle.reader.specs.Alike.{Same-behind, Alike-found, Alike-read}
 use Rattle.reader.proofs.Decided.{find-number, find-decided, read-number, read-decided}
 use Rattle.reader.proofs.Readings.{fit-readings, read-fit}
 
--- A curve that may be used, written over a buffer: the buffer keeps what it held behind the curve, and its length follows from that.
-module _ (S : Setting) (points word curve Q : List ℕ) (u : T (usable S points word Q)) where
-  usable-long : length Q ≡ curve-length S
+-- Curves that may be used, written over one buffer: it keeps what it held behind them, and its length follows from that.
+module _ (S : Setting) (points word curve : List ℕ) where
+  usable-long : (Q : List ℕ) → T (usable S points word Q) → length Q ≡ curve-length S
   unfolding usable long
-  usable-long =
+  usable-long Q u =
       let symbols = both (long (curve-length S) Q && under (S .p) Q) (fits S points word Q) u .0 in
       eqb→eq _ _ (both (long (curve-length S) Q) (under (S .p) Q) symbols .0)
 
-  behind-curve : drop (curve-length S) (over Q curve) ≡ drop (curve-length S) curve
+  behind-is : (Q : List ℕ) → length Q ≡ curve-length S → drop (curve-length S) (over Q curve) ≡ drop (curve-length S) curve
   unfolding over
-  behind-curve = drop-at Q (drop (length Q) curve) _ usable-long ∙ ap (λ (n : ℕ). drop n curve) usable-long
+  behind-is Q e = drop-at Q (drop (length Q) curve) _ e ∙ ap (λ (n : ℕ). drop n curve) e
 
-  with-curve : length (over Q curve) ≡ curve-length S + length (drop (curve-length S) curve)
+  long-is : (Q : List ℕ) → length Q ≡ curve-length S → length (over Q curve) ≡ curve-length S + length (drop (curve-length S) curve)
   unfolding over
-  with-curve = length-append Q (drop (length Q) curve) ∙ ap (λ (n : ℕ). n + length (drop n curve)) usable-long
+  long-is Q e = length-append Q (drop (length Q) curve) ∙ ap (λ (n : ℕ). n + length (drop n curve)) e
+
+  same-behind : (Q Q′ : List ℕ) → T (usable S points word Q) → T (usable S points word Q′) → Same-behind S (over Q curve) (over Q′ curve)
+  same-behind Q Q′ u u′ =
+      let e = usable-long Q u in
+      let e′ = usable-long Q′ u′ in
+      record { long = long-is Q e ∙ sym (long-is Q′ e′); numbers = behind-is Q e ∙ sym (behind-is Q′ e′) }
 
 module _ (S : Setting) (points word curve work : List ℕ) (o o′ : Finding) where
   pub find-alike : Finds S points word curve work o → Finds S points word curve work o′ → Alike-found S o o′
@@ -45,8 +51,7 @@ module _ (S : Setting) (points word curve work : List ℕ) (o o′ : Finding) wh
             refusal = refl;
             found = refl;
             tried = refl;
-            long = with-curve S points word curve _ u ∙ sym (with-curve S points word curve _ u′);
-            behind = behind-curve S points word curve _ u ∙ sym (behind-curve S points word curve _ u′);
+            behind = same-behind S points word curve _ _ u u′;
             work = refl;
             refused = λ n. absurd (n refl);
           })
@@ -56,8 +61,7 @@ module _ (S : Setting) (points word curve work : List ℕ) (o o′ : Finding) wh
             refusal = refl;
             found = refl;
             tried = refl;
-            long = refl;
-            behind = refl;
+            behind = record { long = refl; numbers = refl };
             work = refl;
             refused = λ _. refl;
           })
@@ -78,8 +82,7 @@ module _ (S : Setting) (points word output curve work : List ℕ) (o o′ : Read
             refusal = refl;
             found = ap length (list ∙ sym list′);
             output = ap (λ fs. over (flatten fs) output) (list ∙ sym list′);
-            long = with-curve S points word curve _ u ∙ sym (with-curve S points word curve _ u′);
-            behind = behind-curve S points word curve _ u ∙ sym (behind-curve S points word curve _ u′);
+            behind = same-behind S points word curve _ _ u u′;
             work = refl;
             refused = λ n. absurd (n refl);
           })
@@ -89,8 +92,7 @@ module _ (S : Setting) (points word output curve work : List ℕ) (o o′ : Read
             refusal = refl;
             found = refl;
             output = refl;
-            long = refl;
-            behind = refl;
+            behind = record { long = refl; numbers = refl };
             work = refl;
             refused = λ _. refl;
           })
