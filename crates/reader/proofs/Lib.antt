@@ -8,7 +8,7 @@ mod Pair
 mod Rooms
 mod Times
 mod Scoring
-mod Runs
+pub mod Runs
 mod Sifted
 mod Searching
 mod First

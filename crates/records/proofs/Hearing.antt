@@ -21,11 +21,11 @@ use Rattle.setting.specs.Accepted.{Accepted}
 use Rattle.setting.proofs.Accepted.{accepted}
 use Rattle.demands.proofs.Listing.{list-readings}
 use Rattle.reader.proofs.Lowest.{named, first-accept}
+use Rattle.reader.proofs.Runs.{Long, rows-flat, flat-length, readings-long}
 use Rattle.buffers.proofs.Change.{lt-or-ge}
 use Rattle.records.specs.Holding.{possible}
 use Rattle.records.specs.Heard.{Listed, Heard, messages-of}
 use Rattle.records.proofs.Refused.{call-refuses, too-much-work}
-use Rattle.records.proofs.Lines.{Long, rows-flat, flat-long, readings-long}
 
 three : (a b c : Bool) → lowest ((5 if not a) ∷ (6 if not b) ∷ (7 if not c) ∷ []) ≡ 0 → (a ≡ true) × (b ≡ true) × (c ≡ true)
 unfolding lowest
@@ -151,7 +151,7 @@ module _ (S : Setting) (points word : List ℕ) (K : Kept S points) where
           room = omega (
             arith,
             ap (λ x. x * S .k) how-many,
-            flat-long (S .k) list long-list,
+            flat-length (S .k) list long-list,
             ap length in-front,
             length-append (flatten list) (drop (length (flatten list)) output),
           )
