@@ -89,7 +89,8 @@ enum whitebeamish_refusal {
  * - A buffer that is written (output, curve buffer, work, answer) overlaps no other buffer of the call. Nothing else
  *   reads or writes it while the call runs. Those behind a const pointer may overlap each other.
  * The library cannot test these; where one is broken, nothing is promised. All else is tested: every number and every
- * length is answered. What a lent buffer holds before the call does not matter.
+ * length is answered. What a buffer that is written held before the call changes no result, with one exception: it is
+ * not promised that find and read leave the same curve, nor that read then tells the same beginnings.
  *
  * A refused call changes no buffer but the answer. The library keeps nothing between calls and has no memory of its
  * own, so calls with different buffers may run at the same time.

@@ -1,16 +1,16 @@
--- Each definition of rules commutes with a map between two instances that keeps the operations: one lemma for each.
+-- Each definition that the check and the search rest on commutes with a map between two instances that keeps the operations: one lemma for each.
 use mathlib.Core.Path.{_≡_, refl, sym, _∙_, ap, ap₂, fun-ext}
 use mathlib.Core.Bool.{not, _&&_}
 use mathlib.Core.List.{List, [], _∷_, map, flatMap, zipWith}
 use Prim.Native.Nat.{ℕ, zero, suc, _+_, _-_, _*_}
 use lib.ListN.{getD, List·getD-map}
-use Rattle.rules.specs.Lists.{all, keep, distinct}
+use Rattle.rules.specs.Lists.{all}
 use Rattle.rules.specs.Field.{Ops}
-use Rattle.rules.specs.Code.{Triple, triples, zeros, eval, encode, meets, score, messages, sifted, scoring, readings}
+use Rattle.rules.specs.Code.{Triple, triples, zeros, eval, meets, score, messages}
 use Rattle.rules.specs.Curve.{power, total, coefficient, weighted, hasse, through, passes}
-use Rattle.rules.specs.Search.{merge, rest, first, firsts, strip, stripped, scale, step, follows, alive, beginnings, product, along, roots, listed}
+use Rattle.rules.specs.Search.{merge, rest, first, firsts, strip, stripped, scale, step, follows, alive, beginnings, product, along}
 use Rattle.algebra.specs.Hom.{Hom, move}
-use Rattle.algebra.proofs.Lists.{all-map, sum-map, map-cond, map-keep, map-merge, map-rest, map-width, map-square, map-flatMap}
+use Rattle.algebra.proofs.Lists.{all-map, sum-map, map-cond, map-merge, map-rest, map-width, map-square, map-flatMap}
 
 pub triples-hom : {A B : Type 0} (φ : A → B) (s : ℕ) (points word : List A) → map (move φ) (triples s points word) ≡ triples s (map φ points) (map φ word)
 unfolding triples zipWith
@@ -28,22 +28,10 @@ module _ (O O′ : Ops) (φ : O .Symbol → O′ .Symbol) (H : Hom O O′ φ) wh
   unfolding zeros
   zeros-hom q = simp (all-map, H .same, H .nil)
 
-  pub distinct-hom : (xs : List Symbol) → distinct (O .same) xs ≡ distinct (O′ .same) (map φ xs)
-  unfolding distinct
-  distinct-hom [] = refl
-  distinct-hom (x ∷ xs) = ap₂ _&&_ other (distinct-hom xs)
-    where
-      other : all (λ y. not (O .same x y)) xs ≡ all (λ y. not (O′ .same (φ x) y)) (map φ xs)
-      other = simp (all-map, H .same)
-
   pub eval-hom : (f : List Symbol) (x : Symbol) → φ (eval O f x) ≡ eval O′ (map φ f) (φ x)
   unfolding eval
   eval-hom [] x = H .nil
   eval-hom (c ∷ f) x = simp (H .add, H .mul, eval-hom f x)
-
-  pub encode-hom : (points f : List Symbol) → map φ (encode O points f) ≡ encode O′ (map φ points) (map φ f)
-  unfolding encode
-  encode-hom points f = map-square (eval O f) φ φ (eval O′ (map φ f)) (eval-hom f) points
 
   pub meets-hom : (f : List Symbol) (t : Triple Symbol) → meets O f t ≡ meets O′ (map φ f) (move φ t)
   unfolding meets
@@ -59,19 +47,6 @@ module _ (O O′ : Ops) (φ : O .Symbol → O′ .Symbol) (H : Hom O O′ φ) wh
   messages-hom (suc k) = map-flatMap φ (map φ) _ _
       (λ g. map-square (_∷_ g) (map φ) (map φ) (_∷_ (φ g)) (λ f. refl) (messages O k) ∙ ap (map (_∷_ (φ g))) (messages-hom k)) (O .symbols)
       ∙ ap (flatMap (λ g. map (_∷_ g) (messages O′ k))) (H .symbols)
-
-  pub sifted-hom : (m : ℕ) (zs : List (Triple Symbol)) (fs : List (List Symbol)) →
-      map (map φ) (sifted O m zs fs) ≡ sifted O′ m (map (move φ) zs) (map (map φ) fs)
-  unfolding sifted
-  sifted-hom m zs fs = map-keep (map φ) _ _ (λ f. simp score-hom) fs
-
-  pub scoring-hom : (k m : ℕ) (zs : List (Triple Symbol)) → map (map φ) (scoring O k m zs) ≡ scoring O′ k m (map (move φ) zs)
-  unfolding scoring
-  scoring-hom k m zs = sifted-hom m zs (messages O k) ∙ ap (sifted O′ m (map (move φ) zs)) (messages-hom k)
-
-  pub readings-hom : (k m : ℕ) (points word : List Symbol) → map (map φ) (readings O k m points word) ≡ readings O′ k m (map φ points) (map φ word)
-  unfolding readings
-  readings-hom k m points word = scoring-hom k m _ ∙ ap (scoring O′ k m) (triples-hom φ 1 points word)
 
   -- Curve
 
@@ -165,12 +140,3 @@ module _ (O O′ : Ops) (φ : O .Symbol → O′ .Symbol) (H : Hom O O′ φ) wh
   unfolding along
   along-hom [] f = refl
   along-hom (q ∷ Q) f = simp (plus-hom, product-hom, along-hom Q f)
-
-  pub roots-hom : (k : ℕ) (Q : List (List Symbol)) → map (map φ) (roots O k Q) ≡ roots O′ k (map (map φ) Q)
-  unfolding roots
-  roots-hom k Q = map-keep (map φ) _ _ (λ f. simp (zeros-hom, along-hom)) (messages O k) ∙ ap (keep _) (messages-hom k)
-
-  pub listed-hom : (k m : ℕ) (zs : List (Triple Symbol)) (Q : List (List Symbol)) →
-      map (map φ) (listed O k m zs Q) ≡ listed O′ k m (map (move φ) zs) (map (map φ) Q)
-  unfolding listed
-  listed-hom k m zs Q = sifted-hom m zs (roots O k Q) ∙ ap (sifted O′ m (map (move φ) zs)) (roots-hom k Q)

@@ -1,4 +1,4 @@
--- An accepted setting never fails for want of a curve: the answer of Kötter's algorithm, written out flat, passes.
+-- An accepted setting never fails for want of a curve: the curve that Kötter's algorithm finds, written out flat, passes.
 use mathlib.Core.Path.{_≡_, refl, _∙_, ap, ap₂}
 use mathlib.Core.Bool.{cond}
 use mathlib.Core.List.{List, map}

@@ -1,4 +1,4 @@
--- The answer of Kötter's algorithm, as a flat curve: of the curves that pass it is the chosen one, and there is only one such.
+-- The curve that Kötter's algorithm finds, as a flat curve: of the curves that pass it is the chosen one, and there is only one such.
 use mathlib.Core.Path.{_≡_, sym, _∙_, ap, subst, subst₂}
 use mathlib.Core.Logic.{_⊎_, inl, inr, by-cases}
 use mathlib.Core.List.{List}
@@ -15,7 +15,7 @@ use Rattle.rules.specs.Code.{Triple, zeros}
 use Rattle.rules.specs.Curve.{coefficient, passes}
 use Rattle.algebra.specs.Conditions.{conditions}
 use Rattle.algebra.specs.Poly.{coef}
-use Rattle.algebra.specs.Space.{space, Curve, Same, Below, Top, Monic, Answer, Chosen}
+use Rattle.algebra.specs.Space.{space, Curve, Same, Below, Top, Monic, Least-curve, Chosen}
 use Rattle.algebra.proofs.Rank.{rank-eq}
 use Rattle.algebra.proofs.Basis.{monic-same, meets-same}
 use Rattle.algebra.proofs.Least.{greatest}
@@ -68,8 +68,8 @@ module _ (O : Ops) (L : Laws O) (k W ℓ : ℕ) (zs : List (Triple (O .Symbol)))
           (λ h. s i t (record { column = omega arith; inside = h }))
           (λ h. gone P p t i u l (omega arith) ∙ sym (gone Q q t i u l (omega arith)))
 
-  -- an answer, written out flat with zeros outside the space, is the chosen curve
-  pub chosen : {P : Curve O} {i t : ℕ} (Q : List Symbol) → Answer O (space k W ℓ) (conditions zs) P i t → length Q ≡ (ℓ + 1) * W →
+  -- a least curve, written out flat with zeros outside the space, is the chosen curve
+  pub chosen : {P : Curve O} {i t : ℕ} (Q : List Symbol) → Least-curve O (space k W ℓ) (conditions zs) P i t → length Q ≡ (ℓ + 1) * W →
       Same O (space k W ℓ) (coefficient O W Q) P → ((t i : ℕ) → t < ℓ + 1 → i < W → W ≤ i + t * (k - 1) → coefficient O W Q i t ≡ nil) → Chosen O k W ℓ zs Q
   chosen {P} {i} {t} Q A long s z = record {
     long = long;

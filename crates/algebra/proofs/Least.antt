@@ -10,7 +10,7 @@ use Rattle.rules.specs.Field.{Ops}
 use Rattle.rules.specs.Laws.{Laws}
 use Rattle.algebra.specs.Poly.{neg}
 use Rattle.algebra.specs.Conditions.{Condition, Ready, Ordered}
-use Rattle.algebra.specs.Space.{Space, In, rank, Curve, mix, shift, Same, Below, value, Meets, Top, Monic, Basis, Least, Pivot, Best, Answer}
+use Rattle.algebra.specs.Space.{Space, In, rank, Curve, mix, shift, Same, Below, value, Meets, Top, Monic, Basis, Least, Pivot, Best, Least-curve}
 use Rattle.algebra.proofs.Ring.{nil-add, add-mul, mul-nil, nil-mul, one-mul, neg-add, add-neg, cancel, no-zero-divisor, decide}
 use Rattle.algebra.proofs.Rank.{rank-lt, rank-scan, rank-eq, rank-bound, rank-find}
 use Rattle.algebra.proofs.Conditions.{value-ext, value-lin}
@@ -175,8 +175,8 @@ module _ (O : Ops) (L : Laws O) (S : Space) where
           move (vanish (rank S (d j) j) _ (omega arith) (meets-mix O L S s (B .meets j (T .alive)))
           (cut Q (g j) (d j) j b (B .monic j (T .alive))) i t h (omega arith))
 
-      pub answer : Answer O S cs (g j) (d j) j
-      answer = record {
+      pub least-curve : Least-curve O S cs (g j) (d j) j
+      least-curve = record {
         monic = B .monic j (T .alive);
         meets = B .meets j (T .alive);
         least = least;

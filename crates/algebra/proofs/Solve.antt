@@ -12,11 +12,11 @@ use Rattle.rules.specs.Laws.{Laws}
 use Rattle.rules.specs.Code.{Triple}
 use Rattle.algebra.specs.Poly.{neg}
 use Rattle.algebra.specs.Conditions.{Condition, condition, conditions-along, conditions-at, conditions, Ready}
-use Rattle.algebra.specs.Space.{Space, In, rank, Curve, mix, value, Basis, Least, Pivot, raised, Best, Answer}
+use Rattle.algebra.specs.Space.{Space, In, rank, Curve, mix, value, Basis, Least, Pivot, raised, Best, Least-curve}
 use Rattle.algebra.proofs.Ring.{clears, decide}
 use Rattle.algebra.proofs.Plan.{map-more, flat-more, ready}
 use Rattle.algebra.proofs.Basis.{start, quiet, step, end}
-use Rattle.algebra.proofs.Least.{least-start, least-quiet, least-step, answer}
+use Rattle.algebra.proofs.Least.{least-start, least-quiet, least-step, least-curve}
 
 -- the least of those below n that have A, or none has it
 module _ (A : ℕ → Type 0) (dec : (i : ℕ) → Dec (A i)) (key : ℕ → ℕ) where
@@ -153,15 +153,15 @@ module _ (O : Ops) (L : Laws O) (S : Space) where
   run [] cs s = subst State (sym (append-nil cs)) s
   run (z ∷ zs) cs s = subst State (append-assoc cs (conditions-at z) (conditions zs)) (run zs (cs ++ conditions-at z) (at cs z (z .times) s))
 
-  -- Fewer conditions than terms have an answer.
+  -- Fewer conditions than terms have a least curve.
   pub solve : (zs : List (Triple Symbol)) → ((j : ℕ) → j ≤ S .top → S .off j ≤ S .wide) →
       length (conditions zs) < sum (λ t. S .wide - S .off t) (below (S .top + 1)) →
-      (P : Curve O) × (a : ℕ) × (j : ℕ) × Answer O S (conditions zs) P a j
+      (P : Curve O) × (a : ℕ) × (j : ℕ) × Least-curve O S (conditions zs) P a j
   solve zs f l =
       let s = run zs [] (record { d = λ _. 0; g = power; basis = start O L S power f (λ j w. here j (ℕ-discrete j j)) apart; least = least-start O L S }) in
       let e = end O L S (s .basis) l in
       let b = best (s .d) (e .0) (e .1) in
-      (s .g (b .0), s .d (b .0), b .0, answer O L S (s .least) (s .basis) (b .1))
+      (s .g (b .0), s .d (b .0), b .0, least-curve O L S (s .least) (s .basis) (b .1))
     where
       -- y^j
       power : ℕ → Curve O

@@ -113,7 +113,7 @@ module _ (O : Ops) where
       pub reduce : (j : ℕ) → In S (d j) j → ¬ (j ≡ p) → Same (g′ j) (mix (g j) (ratio j) (g p))
 
     -- the least curve that meets the conditions, and the only one of its greatest term
-    pub record Answer (cs : List (Condition Symbol)) (P : Curve) (a j : ℕ) : Type 0 where
+    pub record Least-curve (cs : List (Condition Symbol)) (P : Curve) (a j : ℕ) : Type 0 where
       pub monic : Monic P a j
       pub meets : Meets cs P
       pub least : (Q : Curve) (i t : ℕ) → Meets cs Q → Top Q i t → rank S a j ≤ rank S i t

@@ -20,7 +20,7 @@ use Rattle.algebra.proofs.Basis.{end}
 use Rattle.algebra.proofs.Bridge.{passes-hom}
 use Rattle.algebra.proofs.Carry.{conditions-hom}
 use Rattle.algebra.proofs.Flat.{each-place, chosen}
-use Rattle.algebra.proofs.Least.{answer}
+use Rattle.algebra.proofs.Least.{least-curve}
 use Rattle.prime.specs.Field.{elt, field}
 use Rattle.prime.proofs.Below.{modulus-two}
 use Rattle.prime.proofs.Laws.{laws}
@@ -82,7 +82,7 @@ module _ {q k w l : ℕ} (s : Shaped q k w l) (zs : List (Triple ℕ)) (few : le
       cell t i u v = List·getD-map (elt q h) Q (place w t i) 0 ∙ ap (elt q h) (at t i u v)
 
       is-chosen : Chosen (field q h) k w l (map (move (elt q h)) zs) (map (elt q h) Q)
-      is-chosen = chosen F L k w l (map (move (elt q h)) zs) (map (elt q h) Q) (answer F L S (K h .least) (K h .basis) best) (length-map Q (elt q h) ∙ long)
+      is-chosen = chosen F L k w l (map (move (elt q h)) zs) (map (elt q h) Q) (least-curve F L S (K h .least) (K h .basis) best) (length-map Q (elt q h) ∙ long)
           (λ i t v. cell t i (omega (arith, v .column)) (omega (arith, v .inside)))
           (λ t i u v b. cell t i u v ∙ ap (elt q h) (K h .clear p t i (first .alive .column) (omega arith) v b))
         where

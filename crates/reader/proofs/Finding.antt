@@ -14,7 +14,7 @@ use Rattle.reader.specs.declared.Outcome.{Outcome}
 use Rattle.reader.specs.declared.terms.Terms.{Terms}
 use Rattle.reader.specs.Terms.{Settled, Posed}
 use Rattle.reader.specs.Calls.{finding, nothing}
-use Rattle.reader.specs.Word.{Findable, Passed}
+use Rattle.reader.specs.Word.{Findable, Curve-left}
 use Rattle.reader.proofs.First.{setting-refuses, others-decide}
 use Rattle.reader.proofs.Given.{Given, given, point-named}
 use Rattle.reader.proofs.Rooms.{two-rooms, not-eight}
@@ -73,7 +73,7 @@ module _ {S : Setting} {t : Terms} {points word curve work : List ℕ} {number :
         settled.findable (h .settled) (g .given) (length-front _ _ (g .curve-fits)) (length-front _ _ (g .work-fits))
 
     -- the lent fronts of both buffers are back
-    pub find-accepted : {Q front : List ℕ} → Passed (t .q) (S .k) (t .w) (t .l) (t .s) points word Q (midOf 0 (t .room - 0) work) front
+    pub find-accepted : {Q front : List ℕ} → Curve-left (t .q) (S .k) (t .w) (t .l) (t .s) points word Q (midOf 0 (t .room - 0) work) front
         → {r : Outcome} → r ≡ nothing 0 → let curve′ = putMid 0 (t .size - 0) curve Q in let work′ = putMid 0 (t .room - 0) work front in
         Finds S points word curve work (finding (r .refusal) (r .found) (r .tried) curve′ work′)
     unfolding find-call

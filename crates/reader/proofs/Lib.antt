@@ -8,8 +8,8 @@ pub mod Given
 mod Rooms
 mod Times
 mod Scoring
-mod Runs
-mod Kept
+pub mod Runs
+mod Sifted
 mod Searching
 mod First
 mod Settled
@@ -18,5 +18,8 @@ mod Checking
 mod Finding
 mod Listing
 mod Reading
+mod Decided
 pub mod Readings
 pub mod Unique
+pub mod Alike
+pub mod Held

@@ -14,7 +14,7 @@ use Rattle.reader.specs.declared.Outcome.{Outcome}
 use Rattle.reader.specs.declared.terms.Terms.{Terms}
 use Rattle.reader.specs.Terms.{Settled, Posed}
 use Rattle.reader.specs.Calls.{reading, nothing}
-use Rattle.reader.specs.Word.{Readable, Passed, Listed}
+use Rattle.reader.specs.Word.{Readable, Curve-left, Listed}
 use Rattle.reader.proofs.First.{setting-refuses, others-decide}
 use Rattle.reader.proofs.Given.{Given, given, point-named}
 use Rattle.reader.proofs.Rooms.{three-rooms, not-eight}
@@ -83,7 +83,7 @@ module _ {S : Setting} {t : Terms} {points word output curve work : List ℕ} {n
 
     -- the lent fronts of curve and work are back
     pub read-accepted : {output′ Q front : List ℕ} {r : Outcome}
-        → Passed (t .q) (S .k) (t .w) (t .l) (t .s) points word Q (midOf 0 (t .room - 0) work) front
+        → Curve-left (t .q) (S .k) (t .w) (t .l) (t .s) points word Q (midOf 0 (t .room - 0) work) front
         → Listed (t .q) (S .k) (t .w) (t .l) (t .s) points word Q output (midOf 0 (t .room - 0) work) output′ front r
         → let curve′ = putMid 0 (t .size - 0) curve Q in let work′ = putMid 0 (t .room - 0) work front in
         Reads S points word output curve work (reading (r .refusal) (r .found) (r .tried) output′ curve′ work′)

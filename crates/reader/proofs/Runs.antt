@@ -9,9 +9,11 @@ use lib.ListN.{length, take, drop, length-append, length-drop}
 use lib.Seq.{take-at, drop-at, drop-drop, length-take-le}
 use borrow.Rule.Slice.PartMut.{putMid}
 use Rattle.rules.specs.Lists.{keep}
+use Rattle.rules.specs.Field.{ops}
+use Rattle.rules.specs.Code.{messages, sifted, scoring, readings}
 use Rattle.rules.specs.Search.{rows}
 use Rattle.rules.specs.Outcome.{over}
-use Rattle.algebra.proofs.Complete.{All}
+use Rattle.algebra.proofs.Complete.{All, messages-long}
 
 -- each of k numbers
 abbrev pub Long : ℕ → List (List ℕ) → Type 0
@@ -25,6 +27,10 @@ keep-long k test (f ∷ fs) a = go (test f) (keep-long k test fs (a .1))
     go : (b : Bool) → Long k (keep test fs) → Long k (cond b (f ∷ keep test fs) (keep test fs))
     go true r = (a .0, r)
     go false r = r
+
+pub readings-long : (q k m : ℕ) (points word : List ℕ) → Long k (readings (ops q) k m points word)
+unfolding readings scoring sifted
+readings-long q k m points word = keep-long k _ (messages (ops q) k) (messages-long (ops q) k)
 
 pub flat-length : (k : ℕ) (fs : List (List ℕ)) → Long k fs → length (flatten fs) ≡ length fs * k
 unfolding flatten

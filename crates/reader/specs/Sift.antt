@@ -27,7 +27,7 @@ abbrev pub scores : ℕ → ℕ → List ℕ → List ℕ → List ℕ → List 
 scores q m points word times f = leb m (score (ops q) (tripled points word times) f)
 
 -- where it does, it is counted and stands behind the kept ones; else nothing changes
-pub record Kept (q m : ℕ) (points word times : List ℕ) (kept : ℕ) (f output output′ : List ℕ) (kept′ : ℕ) : Type 0 where
+pub record Counted (q m : ℕ) (points word times : List ℕ) (kept : ℕ) (f output output′ : List ℕ) (kept′ : ℕ) : Type 0 where
   pub number : kept′ ≡ cond (scores q m points word times f) (kept + 1) kept
   pub written : output′ ≡ cond (scores q m points word times f) (putMid (kept * length f) (length f) output f) output
 

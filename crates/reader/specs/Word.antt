@@ -29,7 +29,7 @@ pub record Findable (q k w l s : ℕ) (points word curve work : List ℕ) : Type
   pub enough : length points * s * (s + 1) / 2 < sum (λ t. w - t * (k - 1)) (below (l + 1))
 
 -- a curve of symbols that passes, and the room as clear as it was long
-pub record Passed (q k w l s : ℕ) (points word curve work work′ : List ℕ) : Type 0 where
+pub record Curve-left (q k w l s : ℕ) (points word curve work work′ : List ℕ) : Type 0 where
   pub whole : length curve ≡ (l + 1) * w
   pub small : T (under q curve)
   pub passing : T (passes (ops q) k w l (triples s points word) curve)

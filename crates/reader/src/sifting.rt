@@ -7,7 +7,7 @@ ghost use lib.ListN.{length};
 ghost use Rattle.rules.specs.Field.{ops, modulus};
 ghost use Rattle.rules.specs.Code.{meets, score};
 ghost use Rattle.curve.specs.Triples.{tripled};
-ghost use Rattle.reader.specs.Sift.{Scorable, Kept, Sifted};
+ghost use Rattle.reader.specs.Sift.{Scorable, Counted, Sifted};
 use field::runs::copy;
 use within::eval;
 
@@ -48,7 +48,7 @@ fn keep(
     output: &mut [u16],
 ) -> usize
     requires { ⌜ Scorable q (now points) (now word) (now times) × (kept < 65536) × (kept * length (now message) + length (now message) ≤ length (now output)) ⌝ }
-    ensures { λ r. ⌜ Kept q m (now (points .entry)) (now (word .entry)) (now (times .entry)) kept (now (message .entry)) (now (output .entry)) (now (output .exit)) r ⌝ }
+    ensures { λ r. ⌜ Counted q m (now (points .entry)) (now (word .entry)) (now (times .entry)) kept (now (message .entry)) (now (output .entry)) (now (output .exit)) r ⌝ }
 {
     if score(q, message, points, word, times) < m {
         return kept;

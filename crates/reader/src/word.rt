@@ -8,7 +8,7 @@ ghost use Rattle.rules.specs.Field.{ops};
 ghost use Rattle.rules.specs.Code.{triples};
 ghost use Rattle.rules.specs.Curve.{passes};
 ghost use Rattle.rules.specs.Refusal.{under};
-ghost use Rattle.reader.specs.Word.{Worded, Findable, Passed, Listable, Listed, Readable};
+ghost use Rattle.reader.specs.Word.{Worded, Findable, Curve-left, Listable, Listed, Readable};
 use crate::Outcome;
 use crate::sifting::sift;
 use field::runs::clear;
@@ -46,7 +46,7 @@ pub fn find(
     work: &mut [u16],
 )
     requires { ⌜ Findable q k w l s (now points) (now word) (now curve) (now work) ⌝ }
-    ensures { λ _. ⌜ Passed q k w l s (now (points .entry)) (now (word .entry)) (now (curve .exit)) (now (work .entry)) (now (work .exit)) ⌝ }
+    ensures { λ _. ⌜ Curve-left q k w l s (now (points .entry)) (now (word .entry)) (now (curve .exit)) (now (work .entry)) (now (work .exit)) ⌝ }
 {
     let times = [s; 64];
     let n = points.len();
@@ -108,7 +108,7 @@ pub fn read(
     work: &mut [u16],
 ) -> Outcome
     requires { ⌜ Readable q k w l s (now points) (now word) (now output) (now curve) (now work) ⌝ }
-    ensures { λ r. ⌜ Passed q k w l s (now (points .entry)) (now (word .entry)) (now (curve .exit)) (now (work .entry)) (now (work .exit)) × Listed q k w l s (now (points .entry)) (now (word .entry)) (now (curve .exit)) (now (output .entry)) (now (work .entry)) (now (output .exit)) (now (work .exit)) r ⌝ }
+    ensures { λ r. ⌜ Curve-left q k w l s (now (points .entry)) (now (word .entry)) (now (curve .exit)) (now (work .entry)) (now (work .exit)) × Listed q k w l s (now (points .entry)) (now (word .entry)) (now (curve .exit)) (now (output .entry)) (now (work .entry)) (now (output .exit)) (now (work .exit)) r ⌝ }
 {
     find(q, k, w, l, s, points, word, curve, work);
     list(q, k, w, l, s, points, word, curve, output, work)

@@ -21,11 +21,11 @@ use Rattle.setting.proofs.Accepted.{accepted}
 use Rattle.demands.proofs.Listing.{list-readings}
 use Rattle.reader.proofs.Lowest.{named, first-accept}
 use Rattle.reader.proofs.Given.{Given, others-alone}
+use Rattle.reader.proofs.Runs.{Long, rows-flat, flat-length, readings-long}
 use Rattle.buffers.proofs.Change.{lt-or-ge}
 use Rattle.records.specs.Holding.{possible}
 use Rattle.records.specs.Heard.{Standing, Heard, messages-of}
 use Rattle.records.proofs.Refused.{call-refuses, too-much-work, points-given}
-use Rattle.records.proofs.Lines.{Long, rows-flat, flat-long, readings-long}
 
 -- what is known where points are held
 pub record Known (S : Setting) (points : List ℕ) : Type 0 where
@@ -146,7 +146,7 @@ module _ (S : Setting) (points word : List ℕ) (K : Known S points) where
           room = omega (
             arith,
             ap (λ x. x * S .k) how-many,
-            flat-long (S .k) list long-list,
+            flat-length (S .k) list long-list,
             ap length in-front,
             length-append (flatten list) (drop (length (flatten list)) output),
           )

@@ -2,3 +2,4 @@
 mod Told
 mod Carried
 pub mod Unique
+pub mod Alike

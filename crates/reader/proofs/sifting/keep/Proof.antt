@@ -5,7 +5,7 @@ use lib.Dec.{leb}
 use lib.ListN.{length}
 use borrow.Author.Tests.{le-leb, lt-leb}
 use borrow.Rule.Slice.PartMut.{putMid}
-use Rattle.reader.proofs.Kept.{put-is}
+use Rattle.reader.proofs.Sifted.{put-is}
 use borrow.Author.Needs.{needs}
 use Rattle.reader.proofs.sifting.keep.Statement.{statement}
 use Rattle.reader.proofs.sifting.keep.Tie as tie

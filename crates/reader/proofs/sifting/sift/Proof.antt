@@ -6,7 +6,7 @@ use native.Mathlib.Nat.{mul-le-mul-right}
 use lib.ListN.{length, take, drop}
 use Rattle.buffers.proofs.Rows.{row-fits}
 use Rattle.reader.specs.Sift.{scores, Sifted}
-use Rattle.reader.proofs.Kept.{at-most, run-is, run-long, sift-none, sift-more}
+use Rattle.reader.proofs.Sifted.{at-most, run-is, run-long, sift-none, sift-more}
 use native.Mathlib.Omega.{arith}
 use borrow.Author.Needs.{needs}
 use Rattle.reader.proofs.sifting.sift.Statement.{statement}

@@ -1,4 +1,4 @@
--- How the messages kept grow message by message.
+-- How the messages sifted grow message by message.
 use mathlib.Core.Path.{_≡_, refl, sym, ap, _∙_}
 use mathlib.Core.Bool.{Bool, true, false, cond}
 use mathlib.Core.List.{List, [], _∷_, _++_, flatten, append-nil}
@@ -13,7 +13,7 @@ use Rattle.rules.specs.Code.{sifted}
 use Rattle.rules.specs.Search.{rows}
 use Rattle.rules.specs.Outcome.{over}
 use Rattle.algebra.proofs.Search.{keep-append}
-use Rattle.reader.specs.Sift.{scores, enough, Kept, Sifted}
+use Rattle.reader.specs.Sift.{scores, enough, Counted, Sifted}
 use Rattle.reader.proofs.Runs.{Long, keep-long, flat-length, flat-append, rows-long, rows-more, over-more}
 
 -- at most one more is kept
@@ -57,7 +57,7 @@ module _ (q k m : ℕ) (points word times found output : List ℕ) where
   -- f: the message in hand; d and e: the output before and after it
   pub sift-more : (i kept : ℕ) (f : List ℕ) {d e : List ℕ} {kept′ : ℕ} → Sifted q k m points word times i found output d kept
       → f ≡ message i → length f ≡ k → i * k ≤ length found
-      → Kept q m points word times kept f d e kept′
+      → Counted q m points word times kept f d e kept′
       → Sifted q k m points word times (i + 1) found output e kept′
   sift-more i kept f {d} {e} {kept′} h is long fits g =
       let more = kept-more i ∙ ap (λ g. kept-of i ++ cond (good g) (g ∷ []) []) (sym is) in
