@@ -14,10 +14,6 @@ use Rattle.algebra.specs.Space.{space, value}
 use Rattle.demands.specs.Shape.{Shaped}
 use Rattle.curve.specs.Value.{pairing}
 
--- every number is 0
-unfoldable pub blank : List ℕ → Bool
-blank run = all (λ c. eqb c 0) run
-
 -- the first n weights of order a
 abbrev pub line : ℕ → ℕ → List ℕ → List ℕ
 line a n ws = take n (drop (a * 256) ws)

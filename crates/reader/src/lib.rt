@@ -7,7 +7,7 @@ ghost use Rattle.reader.specs.Calls.{encoded, checked, finding, listing,
 
 mod refusals;
 mod sifting;
-pub mod slices;
+mod slices;
 mod terms;
 mod word;
 mod writing;

@@ -6,6 +6,7 @@ ghost use lib.Dec.{eqb};
 ghost use Rattle.rules.specs.Refusal.{_if_, lowest, encode-refusal};
 ghost use Rattle.reader.specs.Causes.{pair-causes, proposed-causes};
 use crate::slices;
+use field::runs::all_distinct;
 
 // 5 to 7 for n points and m symbols.
 pub fn of_pair(p: usize, n: usize, points: &[u16], m: usize, symbols: &[u16]) -> u16
@@ -17,7 +18,7 @@ pub fn of_pair(p: usize, n: usize, points: &[u16], m: usize, symbols: &[u16]) ->
     if !slices::both_below(p, points, symbols) {
         return 6;
     }
-    if !slices::all_distinct(points) {
+    if !all_distinct(points) {
         return 7;
     }
     0
@@ -60,7 +61,7 @@ pub fn of_proposed(
     if !slices::three_below(p, points, word, curve) {
         return 6;
     }
-    if !slices::all_distinct(points) {
+    if !all_distinct(points) {
         return 7;
     }
     0

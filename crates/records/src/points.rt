@@ -20,10 +20,10 @@ fn points_refusal(s: Setting, points: &[u16]) -> u16
     if points.len() != s.n as usize {
         return 5;
     }
-    if !reader::slices::all_below(s.p as usize, points) {
+    if !field::runs::all_below(s.p as usize, points) {
         return 6;
     }
-    if !reader::slices::all_distinct(points) {
+    if !field::runs::all_distinct(points) {
         return 7;
     }
     0

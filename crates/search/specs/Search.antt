@@ -1,5 +1,5 @@
 -- What the search needs and leaves: the tally, the roots, and the slots and symbols of the beginnings that stay.
-use mathlib.Core.Bool.{Bool, true, false, not}
+use mathlib.Core.Bool.{not}
 use mathlib.Core.List.{List, _++_, map, flatten}
 use mathlib.Core.Path.{_≡_}
 use Prim.Native.Nat.{ℕ, _+_, _-_, _*_, _^_, _<_, _≤_}
@@ -35,11 +35,6 @@ listed p fs = flatten (map (_++_ p) fs)
 -- e is d with xs from place a on
 abbrev pub Written : List ℕ → ℕ → List ℕ → List ℕ → Type 0
 Written xs a d e = Changed (λ j. getD xs j 0) a (length xs) d e
-
--- the answer says whether the n numbers from a on are all zero
-pub record Zeros (a n : ℕ) (d : List ℕ) (r : Bool) : Type 0 where
-  pub zero : r ≡ true → (j : ℕ) → j < n → getD d (a + j) 0 ≡ 0
-  pub some : r ≡ false → ¬ ((j : ℕ) → j < n → getD d (a + j) 0 ≡ 0)
 
 -- A field, and rows and symbols as many as there is room for.
 pub record Shaped (h : Sizes) : Type 0 where
