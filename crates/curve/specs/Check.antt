@@ -11,7 +11,7 @@ use Rattle.rules.specs.Code.{Triple}
 use Rattle.rules.specs.Curve.{coefficient}
 use Rattle.algebra.specs.Conditions.{condition}
 use Rattle.algebra.specs.Space.{space, value}
-use Rattle.demands.specs.Shape.{Shaped}
+use Rattle.curve.specs.Shape.{Shaped}
 use Rattle.curve.specs.Value.{pairing}
 
 -- the first n weights of order a

@@ -9,7 +9,7 @@ ghost use Rattle.rules.specs.Curve.{weighted, passes};
 ghost use Rattle.rules.specs.Refusal.{under};
 ghost use Rattle.algebra.specs.Conditions.{weight};
 ghost use Rattle.buffers.specs.Change.{Changed};
-ghost use Rattle.demands.specs.Shape.{Shaped};
+ghost use Rattle.curve.specs.Shape.{Shaped};
 ghost use Rattle.curve.specs.Weights.{Lower, Weights};
 ghost use Rattle.curve.specs.Value.{pairing};
 ghost use Rattle.curve.specs.Triples.{tripled};

@@ -13,7 +13,7 @@ use Rattle.buffers.specs.Change.{Changed}
 use Rattle.buffers.proofs.Change.{lt-or-ge}
 use Rattle.buffers.proofs.Rows.{row-fits}
 use Rattle.within.specs.Runs.{Apart, added, moved, shifted}
-use Rattle.demands.specs.Shape.{Shaped}
+use Rattle.curve.specs.Shape.{Shaped}
 use Rattle.finder.specs.Slot.{slot, place, mixed-at, raised-at, Treated}
 
 pub slot-small : {q k w l : ℕ} → Shaped q k w l → slot w l ≤ 25 * 256

@@ -4,7 +4,7 @@ ghost use mathlib.Core.Path.{_≡_};
 ghost use lib.ListN.{length, getD};
 ghost use Rattle.rules.specs.Field.{minus};
 ghost use Rattle.within.specs.Runs.{Apart};
-ghost use Rattle.demands.specs.Shape.{Shaped};
+ghost use Rattle.curve.specs.Shape.{Shaped};
 ghost use Rattle.finder.specs.Slot.{slot, mixed-at, raised-at, Treated, Started, Swept};
 use field::runs::clear;
 use field::symbols::mul;

@@ -61,7 +61,7 @@ add-t14 c =
     let x = start .args in
     let p = start .pre in
     let f = found-one p (at-all-zero .all-zero .ensures) (at-if1 .if1 .left) in
-    omega (arith, count-fits (x .t .found) (x .h .k) _ (p .shaped .symbols) (room-one (x .t .found) (x .h .k) _ _ f (p .room)))
+    omega (arith, count-fits (x .t .found) (x .h .k) _ (p .sized .symbols) (room-one (x .t .found) (x .h .k) _ _ f (p .room)))
 
 add-t12 : tie.Need-add-t12
 add-t12 c = search needs
