@@ -1,6 +1,6 @@
 -- The tests of the check, place by place: what a loop has seen so far decides them.
-use mathlib.Core.Path.{_≡_, refl, sym, _∙_, subst, ap, ap₂}
-use mathlib.Core.Bool.{Bool, true, false, not, _&&_, _||_}
+use mathlib.Core.Path.{_≡_, sym, _∙_, subst, ap}
+use mathlib.Core.Bool.{Bool, true, false, not, _||_}
 use mathlib.Core.List.{List, [], _∷_}
 use Prim.Native.Nat.{ℕ, zero, suc, _+_, _-_, _*_, _<_, _≤_}
 use native.Mathlib.Omega.{arith}
@@ -9,13 +9,13 @@ use lib.ListN.{length, getD}
 use borrow.Rule.Slice.PartMut.{midOf}
 use Rattle.rules.specs.Lists.{below, all}
 use Rattle.rules.specs.Field.{ops, alike}
-use Rattle.rules.specs.Code.{zeros}
 use Rattle.rules.specs.Curve.{coefficient, weighted}
 use Rattle.rules.specs.Refusal.{under}
-use Rattle.rules.proofs.Tests.{both, and, below-at, below-of, or-else, same-test}
+use Rattle.rules.proofs.Tests.{both, below-at, below-of, or-else, same-test}
 use Rattle.prime.proofs.Below.{alike-zero, alike-itself}
 use Rattle.buffers.proofs.Part.{len-mid, at-mid}
-use Rattle.curve.specs.Check.{blank}
+use Rattle.field.specs.Runs.{blank}
+use Rattle.field.proofs.Places.{zero-test, blank-of, blank-at}
 
 -- the answer that a loop gives at its end, and where it stops
 pub test-true : (b : Bool) → T b → true ≡ b
@@ -33,9 +33,6 @@ pub said-no : (r b : Bool) → not r ≡ true → r ≡ b → ¬ (T b)
 said-no true b e f t = subst T (sym e) tt
 said-no false b e f t = subst T (sym f) t
 
-pub zero-test : {a : ℕ} → a ≡ 0 → T (eqb a 0)
-zero-test e = rw e tt
-
 module _ (test : ℕ → Bool) (n : ℕ) where
   pub below-true : ((i : ℕ) → i < n → T (test i)) → true ≡ all test (below n)
   below-true h = test-true (all test (below n)) (below-of test n h)
@@ -49,32 +46,7 @@ below-same f g n h =
     same-test (all f (below n)) (all g (below n)) (λ t. below-of g n (λ i l. subst T (h i l) (below-at f n i t l)))
     (λ t. below-of f n (λ i l. subst T (sym (h i l)) (below-at g n i t l)))
 
-blank-of : (run : List ℕ) → ((i : ℕ) → i < length run → getD run i 0 ≡ 0) → T (blank run)
-unfolding blank all
-blank-of [] h = tt
-blank-of (c ∷ run) h = and (eqb c 0) _ (zero-test (h 0 (omega arith))) (blank-of run (λ i l. h (suc i) (omega arith)))
-
-blank-at : (run : List ℕ) → T (blank run) → (i : ℕ) → getD run i 0 ≡ 0
-unfolding blank all
-blank-at [] t i = refl
-blank-at (c ∷ run) t zero = eqb→eq c 0 (both (eqb c 0) _ t .0)
-blank-at (c ∷ run) t (suc i) = blank-at run (both (eqb c 0) _ t .1) i
-
-pub blank-true : (run : List ℕ) → ((i : ℕ) → i < length run → getD run i 0 ≡ 0) → true ≡ blank run
-blank-true run h = test-true (blank run) (blank-of run h)
-
-pub blank-false : (run : List ℕ) (i : ℕ) → ¬ (getD run i 0 ≡ 0) → false ≡ blank run
-blank-false run i n = test-false (blank run) (λ t. n (blank-at run t i))
-
--- Numbers below q stand for zero only where they are 0.
-
-pub zeros-blank : (q : ℕ) (c : List ℕ) → T (under q c) → zeros (ops q) c ≡ blank c
-unfolding zeros blank under all
-zeros-blank q [] u = refl
-zeros-blank q (a ∷ c) u =
-    let r = both (ltb a q) _ u in
-    ap₂ _&&_ (alike-zero q a (ltb→lt a q (r .0))) (zeros-blank q c (r .1))
-
+-- a number below q stands for zero only where it is 0
 alike-at : (q : ℕ) (c : List ℕ) (i : ℕ) → T (under q c) → alike q (getD c i 0) 0 ≡ eqb (getD c i 0) 0
 unfolding under all
 alike-at q [] i u = alike-itself q 0

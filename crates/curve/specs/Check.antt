@@ -11,12 +11,8 @@ use Rattle.rules.specs.Code.{Triple}
 use Rattle.rules.specs.Curve.{coefficient}
 use Rattle.algebra.specs.Conditions.{condition}
 use Rattle.algebra.specs.Space.{space, value}
-use Rattle.demands.specs.Shape.{Shaped}
+use Rattle.curve.specs.Shape.{Shaped}
 use Rattle.curve.specs.Value.{pairing}
-
--- every number is 0
-unfoldable pub blank : List ℕ → Bool
-blank run = all (λ c. eqb c 0) run
 
 -- the first n weights of order a
 abbrev pub line : ℕ → ℕ → List ℕ → List ℕ

@@ -8,12 +8,13 @@ ghost use Rattle.rules.specs.Lists.{all};
 ghost use Rattle.rules.specs.Curve.{weighted, passes};
 ghost use Rattle.rules.specs.Refusal.{under};
 ghost use Rattle.algebra.specs.Conditions.{weight};
-ghost use Rattle.demands.specs.Shape.{Shaped};
 ghost use Rattle.buffers.specs.Change.{Changed};
+ghost use Rattle.curve.specs.Shape.{Shaped};
 ghost use Rattle.curve.specs.Weights.{Lower, Weights};
 ghost use Rattle.curve.specs.Value.{pairing};
 ghost use Rattle.curve.specs.Triples.{tripled};
-ghost use Rattle.curve.specs.Check.{blank, zero-with, zero-below, met, Checkable};
+ghost use Rattle.curve.specs.Check.{zero-with, zero-below, met, Checkable};
+use field::runs::all_zero;
 use field::runs::dot;
 use field::symbols::mixed;
 
@@ -81,20 +82,6 @@ pub fn value(q: u16, k: usize, w: usize, l: usize, x: &[u16], y: &[u16], curve: 
         t += 1;
     }
     sum
-}
-
-// Whether every number is 0.
-fn all_zero(run: &[u16]) -> bool
-    ensures { λ r. ⌜ r ≡ blank (now (run .entry)) ⌝ }
-{
-    let mut i: usize = 0;
-    while i < run.len() {
-        if run[i] != 0 {
-            return false;
-        }
-        i += 1;
-    }
-    true
 }
 
 // Whether each coefficient with i + t·(k−1) ≥ w is zero: of each row what lies behind the part that can be nonzero.

@@ -2,5 +2,8 @@
 pub mod Reduce
 pub mod Modulus
 pub mod Euclid
+pub mod Value
+pub mod Scan
+pub mod Places
 pub mod Refuses
 pub mod Unique

@@ -1,12 +1,16 @@
-// Runs of symbols in slices, modulo q, which names a field.
+// Runs of symbols in slices: sums and values modulo q, which names a field, runs that are filled, and what is asked of a run.
 ghost use mathlib.Core.Path.{_≡_};
+ghost use mathlib.Core.Bool.{not};
 ghost use Prim.Native.Nat.{_%_, _<_, _≤_};
-ghost use lib.Dec.{T};
+ghost use lib.Dec.{T, eqb};
 ghost use lib.ListN.{length};
+ghost use Rattle.rules.specs.Lists.{all, distinct};
 ghost use Rattle.rules.specs.Field.{ops, modulus};
+ghost use Rattle.rules.specs.Code.{eval as value-at};
 ghost use Rattle.rules.specs.Curve.{total};
+ghost use Rattle.rules.specs.Refusal.{under};
 ghost use Rattle.buffers.specs.Change.{Changed};
-ghost use Rattle.field.specs.Runs.{products, scaled};
+ghost use Rattle.field.specs.Runs.{products, blank};
 use crate::symbols::mixed;
 use crate::symbols::wide;
 
@@ -33,16 +37,18 @@ pub fn dot(q: u16, a: &[u16], b: &[u16]) -> u16
     remainder(sum, q)
 }
 
-// Each symbol of dst becomes itself plus c times the one of src.
-pub fn add_scaled(q: u16, c: u16, src: &[u16], dst: &mut [u16])
-    requires { ⌜ T (modulus q) × (length (now src) ≡ length (now dst)) ⌝ }
-    ensures { λ _. ⌜ Changed (scaled q c (now (src .entry)) (now (dst .entry))) 0 (length (now (dst .entry))) (now (dst .entry)) (now (dst .exit)) ⌝ }
+// The value at x of the polynomial f.
+pub fn eval(q: u16, f: &[u16], x: u16) -> u16
+    requires { ⌜ T (modulus q) ⌝ }
+    ensures { λ r. ⌜ r ≡ value-at (ops q) (now (f .entry)) x ⌝ }
 {
-    let mut i = 0;
-    while i < dst.len() {
-        dst[i] = mixed(q, dst[i], c, src[i]);
-        i += 1;
+    let mut sum: u16 = 0;
+    let mut i = f.len();
+    while 0 < i {
+        i -= 1;
+        sum = mixed(q, f[i], x, sum);
     }
+    sum
 }
 
 // Each number of s becomes 0.
@@ -66,4 +72,61 @@ pub fn copy(src: &[u16], dst: &mut [u16])
         dst[i] = src[i];
         i += 1;
     }
+}
+
+// Whether every number is 0.
+pub fn all_zero(run: &[u16]) -> bool
+    ensures { λ r. ⌜ r ≡ blank (now (run .entry)) ⌝ }
+{
+    let mut i = 0;
+    while i < run.len() {
+        if run[i] != 0 {
+            return false;
+        }
+        i += 1;
+    }
+    true
+}
+
+// Whether each is below p.
+pub fn all_below(p: usize, symbols: &[u16]) -> bool
+    ensures { λ r. ⌜ r ≡ under p (now (symbols .entry)) ⌝ }
+{
+    let mut i = 0;
+    while i < symbols.len() {
+        if symbols[i] as usize >= p {
+            return false;
+        }
+        i += 1;
+    }
+    true
+}
+
+// Whether x is none of these.
+fn is_new(x: u16, others: &[u16]) -> bool
+    ensures { λ r. ⌜ r ≡ all (λ y. not (eqb x y)) (now (others .entry)) ⌝ }
+{
+    let mut i = 0;
+    while i < others.len() {
+        if others[i] == x {
+            return false;
+        }
+        i += 1;
+    }
+    true
+}
+
+// Whether no two are equal.
+pub fn all_distinct(points: &[u16]) -> bool
+    ensures { λ r. ⌜ r ≡ distinct eqb (now (points .entry)) ⌝ }
+{
+    let mut i = 0;
+    while i < points.len() {
+        let next = i + 1;
+        if !is_new(points[i], &points[next..]) {
+            return false;
+        }
+        i = next;
+    }
+    true
 }

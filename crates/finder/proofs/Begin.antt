@@ -13,7 +13,7 @@ use Rattle.algebra.proofs.Basis.{start, basis-same}
 use Rattle.prime.specs.Field.{elt, field}
 use Rattle.prime.proofs.Laws.{laws}
 use Rattle.buffers.proofs.Rows.{row-fits}
-use Rattle.demands.specs.Shape.{Shaped}
+use Rattle.curve.specs.Shape.{Shaped}
 use Rattle.finder.specs.Slot.{slot, place, Started}
 use Rattle.finder.specs.Kept.{view, Kept}
 use Rattle.curve.proofs.Pairing.{row-inside}

@@ -1,18 +1,16 @@
 -- After all conditions, of which there are fewer than terms, the alive curve of the least leading term is the chosen one.
 use mathlib.Core.Path.{_≡_, sym, ap, subst, _∙_}
 use mathlib.Core.Logic.{⊎-elim}
-use mathlib.Core.List.{List, [], _∷_, map}
-use Prim.Native.Nat.{ℕ, suc, _+_, _-_, _*_, _<_, _≤_}
+use mathlib.Core.List.{List, map}
+use Prim.Native.Nat.{ℕ, _+_, _-_, _*_, _<_, _≤_}
 use native.Mathlib.Omega.{arith}
-use lib.Dec.{T, ltb, lt→ltb}
+use lib.Dec.{T}
 use lib.ListN.{length, getD, length-map, List·getD-map}
-use Rattle.rules.specs.Lists.{below, sum, all}
+use Rattle.rules.specs.Lists.{below, sum}
 use Rattle.rules.specs.Field.{Ops, ops}
 use Rattle.rules.specs.Laws.{Laws}
 use Rattle.rules.specs.Code.{Triple}
 use Rattle.rules.specs.Curve.{coefficient}
-use Rattle.rules.specs.Refusal.{under}
-use Rattle.rules.proofs.Tests.{and}
 use Rattle.algebra.specs.Hom.{move}
 use Rattle.algebra.specs.Conditions.{conditions}
 use Rattle.algebra.specs.Space.{Space, In, space, Best, Chosen}
@@ -26,16 +24,12 @@ use Rattle.prime.proofs.Below.{modulus-two}
 use Rattle.prime.proofs.Laws.{laws}
 use Rattle.buffers.proofs.Part.{len-mid, at-mid}
 use Rattle.buffers.proofs.Rows.{row-fits}
-use Rattle.demands.specs.Shape.{Shaped}
 use Rattle.demands.proofs.Link.{elt-hom}
+use Rattle.field.proofs.Places.{under-of}
+use Rattle.curve.specs.Shape.{Shaped}
 use Rattle.finder.specs.Slot.{slot, place, curve-at}
 use Rattle.finder.specs.Kept.{First, Picked, Kept, Found}
 use Rattle.finder.proofs.Sweep.{place-in}
-
-under-of : (q : ℕ) (xs : List ℕ) → ((m : ℕ) → m < length xs → getD xs m 0 < q) → T (under q xs)
-unfolding under all
-under-of q [] h = tt
-under-of q (x ∷ xs) h = and (ltb x q) (all (λ a. ltb a q) xs) (lt→ltb x q (h 0 (omega arith))) (under-of q xs (λ m u. h (suc m) (omega arith)))
 
 module _ {q k w l : ℕ} (s : Shaped q k w l) (zs : List (Triple ℕ)) (few : length (conditions zs) < sum (λ t. w - t * (k - 1)) (below (l + 1)))
     {leads work : List ℕ} (K : (h : 1 < q) → Kept q h k w l (conditions (map (move (elt q h)) zs)) leads work)

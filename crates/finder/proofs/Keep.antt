@@ -26,8 +26,8 @@ use Rattle.prime.proofs.Below.{plus-below, minus-reduced}
 use Rattle.prime.proofs.Laws.{laws}
 use Rattle.prime.proofs.Tests.{modulus-says}
 use Rattle.prime.proofs.Inverse.{inverse-times}
-use Rattle.demands.specs.Shape.{Shaped}
 use Rattle.demands.proofs.Link.{elt-hom}
+use Rattle.curve.specs.Shape.{Shaped}
 use Rattle.curve.specs.Value.{pairing}
 use Rattle.curve.proofs.Pairing.{pairing-value}
 use Rattle.within.specs.Runs.{moved}

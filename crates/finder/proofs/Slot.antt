@@ -12,8 +12,8 @@ use Rattle.rules.specs.Field.{plus, times}
 use Rattle.buffers.specs.Change.{Changed}
 use Rattle.buffers.proofs.Change.{lt-or-ge}
 use Rattle.buffers.proofs.Rows.{row-fits}
-use Rattle.demands.specs.Shape.{Shaped}
 use Rattle.within.specs.Runs.{Apart, added, moved, shifted}
+use Rattle.curve.specs.Shape.{Shaped}
 use Rattle.finder.specs.Slot.{slot, place, mixed-at, raised-at, Treated}
 
 pub slot-small : {q k w l : ℕ} → Shaped q k w l → slot w l ≤ 25 * 256

@@ -11,7 +11,7 @@ use lib.ListN.{getD, take, drop}
 use Rattle.rules.specs.Curve.{total}
 use Rattle.rules.proofs.Tests.{either}
 use Rattle.prime.proofs.Below.{plus-below, modulus-two}
-use Rattle.demands.specs.Shape.{Shaped}
+use Rattle.curve.specs.Shape.{Shaped}
 use Rattle.curve.specs.Value.{pairing}
 use Rattle.finder.specs.Slot.{slot, curve-at, valued}
 

@@ -7,7 +7,7 @@ ghost use Rattle.rules.specs.Lists.{below};
 ghost use Rattle.algebra.specs.Hom.{move};
 ghost use Rattle.algebra.specs.Conditions.{condition, conditions-at, conditions};
 ghost use Rattle.prime.specs.Field.{elt};
-ghost use Rattle.demands.specs.Shape.{Shaped};
+ghost use Rattle.curve.specs.Shape.{Shaped};
 ghost use Rattle.curve.specs.Weights.{Weights};
 ghost use Rattle.curve.specs.Triples.{tripled};
 ghost use Rattle.finder.specs.Slot.{slot};

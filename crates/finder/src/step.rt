@@ -2,8 +2,8 @@
 ghost use mathlib.Core.Path.{_≡_};
 ghost use Prim.Native.Nat.{_+_, _*_, _<_, _≤_};
 ghost use lib.ListN.{length};
-ghost use Rattle.demands.specs.Shape.{Shaped};
 ghost use Rattle.buffers.specs.Change.{Changed};
+ghost use Rattle.curve.specs.Shape.{Shaped};
 ghost use Rattle.finder.specs.Slot.{slot, valued};
 ghost use Rattle.finder.specs.Kept.{Fit, Picked, Met};
 use crate::slots::raise;

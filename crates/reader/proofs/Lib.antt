@@ -1,5 +1,4 @@
 -- The proofs of crate reader: slices and refusal numbers, then the engine's part, then the calls, and last what holds of every outcome.
-mod Scan
 mod Answers
 mod Patch
 mod Front

@@ -1,9 +1,9 @@
 // What the calls test of the slices that they take.
 ghost use mathlib.Core.Path.{_≡_};
-ghost use mathlib.Core.Bool.{not, _&&_, _||_};
-ghost use lib.Dec.{eqb, ltb};
-ghost use Rattle.rules.specs.Lists.{all, distinct};
+ghost use mathlib.Core.Bool.{_&&_, _||_};
+ghost use lib.Dec.{ltb};
 ghost use Rattle.rules.specs.Refusal.{long, under};
+use field::runs::all_below;
 
 // Whether there are n points and m symbols, and the numbers of a curve are as many as its size.
 pub fn three_long(
@@ -56,54 +56,4 @@ pub fn three_below(p: usize, points: &[u16], symbols: &[u16], curve: &[u16]) -> 
         return false;
     }
     all_below(p, curve)
-}
-
-// Whether each is below p.
-pub fn all_below(p: usize, symbols: &[u16]) -> bool
-    ensures { λ r. ⌜ r ≡ under p (now (symbols .entry)) ⌝ }
-{
-    let mut i: usize = 0;
-    while i < symbols.len() {
-        if p <= wide(symbols[i]) {
-            return false;
-        }
-        i += 1;
-    }
-    true
-}
-
-// A symbol as a number that can be compared with p.
-fn wide(x: u16) -> usize
-    ensures { λ r. ⌜ r ≡ x ⌝ }
-{
-    x as usize
-}
-
-// Whether x is none of these.
-fn is_new(x: u16, others: &[u16]) -> bool
-    ensures { λ r. ⌜ r ≡ all (λ y. not (eqb x y)) (now (others .entry)) ⌝ }
-{
-    let mut i: usize = 0;
-    while i < others.len() {
-        if others[i] == x {
-            return false;
-        }
-        i += 1;
-    }
-    true
-}
-
-// Whether no two are equal.
-pub fn all_distinct(points: &[u16]) -> bool
-    ensures { λ r. ⌜ r ≡ distinct eqb (now (points .entry)) ⌝ }
-{
-    let mut i: usize = 0;
-    while i < points.len() {
-        let next = i + 1;
-        if !is_new(points[i], &points[next..]) {
-            return false;
-        }
-        i = next;
-    }
-    true
 }

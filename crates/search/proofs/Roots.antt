@@ -1,30 +1,30 @@
 -- The roots written one after the other, and the test at the end of a beginning.
 use mathlib.Core.Bool.{Bool, true, false, cond, not}
 use mathlib.Core.Path.{_≡_, refl, sym, ap, ap₂, _∙_}
-use mathlib.Core.Logic.{_↔_, ⊎-elim}
+use mathlib.Core.Logic.{⊎-elim}
 use mathlib.Core.List.{List, [], _∷_, _++_, map, flatten, append-nil, append-assoc}
-use Prim.Native.Nat.{ℕ, zero, suc, _+_, _-_, _*_, _<_, _≤_}
+use Prim.Native.Nat.{ℕ, _+_, _-_, _*_, _≤_}
 use native.Mathlib.Nat.{mul-one, mul-le-mul-left}
 use native.Mathlib.Omega.{arith}
 use native.Mathlib.Numerals.{add-one}
-use lib.Dec.{T, eqb, eqb→eq}
-use lib.ListN.{length, getD, take, length-append, List·getD-append}
-use lib.Seq.{getD-append-add, getD-take, length-take-le}
+use lib.Dec.{T}
+use lib.ListN.{length, getD, take, drop, length-append, List·getD-append}
+use lib.Seq.{getD-append-add, getD-take, length-take-le, take-take}
 use Rattle.rules.specs.Code.{zeros}
-use Rattle.rules.specs.Field.{ops, alike}
-use Rattle.rules.specs.Lists.{all}
+use Rattle.rules.specs.Field.{ops}
+use Rattle.rules.specs.Refusal.{under}
 use Rattle.rules.specs.Search.{rows}
-use Rattle.rules.proofs.Tests.{both, and, same-test}
-use Rattle.prime.proofs.Below.{alike-zero}
 use Rattle.algebra.specs.Search.{found}
 use Rattle.buffers.proofs.Change.{lt-or-ge}
 use Rattle.buffers.proofs.Part.{len-mid}
 use Rattle.buffers.proofs.Rows.{row-end}
+use Rattle.field.specs.Runs.{blank}
+use Rattle.field.proofs.Places.{under-of, zeros-blank}
 use borrow.Author.Tests.{not-true, not-false}
 use Rattle.search.specs.declared.Sizes.{Sizes}
 use Rattle.search.specs.declared.Tally.{Tally}
 use Rattle.search.specs.Slot.{run, Below, curve}
-use Rattle.search.specs.Search.{listed, Written, Zeros, Ready}
+use Rattle.search.specs.Search.{listed, Written, Ready}
 use Rattle.search.proofs.Heads.{run-at}
 
 pub written-none : (a : ℕ) (d : List ℕ) → Written [] a d d
@@ -75,55 +75,40 @@ module _ (p : List ℕ) where
   listed-more g [] = refl
   listed-more g (f ∷ fs) = ap₂ _++_ (append-assoc p (g ∷ []) f) (listed-more g fs)
 
-zero-eqb : (c : ℕ) → c ≡ 0 → T (eqb c 0)
-zero-eqb c e = rw e tt
+-- the row at y^0 of the curve in a slot
+module _ (q w l a : ℕ) (d : List ℕ) (low : Below q a ((l + 1) * w) d) (fits : a + (l + 1) * w ≤ length d) where
+  abbrev row : List ℕ
+  row = take w (run a ((l + 1) * w) d)
 
-module _ (q : ℕ) where
-  zeros-tell : (s : List ℕ) → ((j : ℕ) → j < length s → getD s j 0 < q) → T (zeros (ops q) s) ↔ ((j : ℕ) → j < length s → getD s j 0 ≡ 0)
-  unfolding zeros all
-  zeros-tell [] b = (λ t j l. absurd (omega arith), λ z. tt)
-  zeros-tell (c ∷ s) b =
-      let k = zeros-tell s (λ j l. b (suc j) (omega arith)) in
-      let f = alike-zero q c (b 0 (omega arith)) in (
-        λ t. let r = both (alike q c 0) (zeros (ops q) s) t in
-            elim [ zero ↦ λ l. eqb→eq c 0 (rw f at (r .0)) | suc j ↦ λ l. k .0 (r .1) j (omega arith) ],
-        λ z. and (alike q c 0) (zeros (ops q) s) (rw f (zero-eqb c (z 0 (omega arith)))) (k .1 (λ j l. z (suc j) (omega arith))),
-      )
+  wide : w ≤ (l + 1) * w
+  wide = omega (arith, row-end l w)
 
-  -- the row at y^0 of the curve in a slot
-  module _ (w l a : ℕ) (d : List ℕ) (low : Below q a ((l + 1) * w) d) (fits : a + (l + 1) * w ≤ length d) where
-    abbrev s : List ℕ
-    s = run a ((l + 1) * w) d
+  row-length : length row ≡ w
+  row-length = length-take-le w (run a ((l + 1) * w) d) (omega (arith, wide, len-mid a ((l + 1) * w) d fits))
 
-    wide : w ≤ (l + 1) * w
-    wide = omega (arith, row-end l w)
+  row-low : T (under q row)
+  row-low = under-of q row (λ j k. rw (
+    getD-take w (run a ((l + 1) * w) d) j 0 (omega (arith, row-length)),
+    run-at a ((l + 1) * w) d j (omega (arith, row-length, wide)),
+  ) (low j (omega (arith, row-length, wide))))
 
-    row-length : length (take w s) ≡ w
-    row-length = length-take-le w s (omega (arith, wide, len-mid a ((l + 1) * w) d fits))
+  -- the places from a to before a + w
+  row-part : run a (a + w - a) d ≡ row
+  row-part = let n : a + w - a ≡ w = omega arith in ap (λ (m : ℕ). run a m d) n ∙ sym (take-take w ((l + 1) * w) (drop a d) wide)
 
-    row-at : (j : ℕ) → j < length (take w s) → getD (take w s) j 0 ≡ getD d (a + j) 0
-    row-at j k = getD-take w s j 0 (omega (arith, row-length)) ∙ run-at a ((l + 1) * w) d j (omega (arith, row-length, wide))
+  first-row : getD (rows w (l + 1) (run a ((l + 1) * w) d)) 0 [] ≡ row
+  unfolding rows
+  first-row = rw (add-one l) refl
 
-    tells : T (zeros (ops q) (take w s)) ↔ ((j : ℕ) → j < length (take w s) → getD (take w s) j 0 ≡ 0)
-    tells = zeros-tell (take w s) (λ j k. rw (row-at j k) (low j (omega (arith, row-length, wide))))
-
-    tested : (r : Bool) → Zeros a w d r → zeros (ops q) (take w s) ≡ r
-    tested true z = same-test _ true (λ t. tt) (λ t. tells .1 (λ j k. row-at j k ∙ z .zero refl j (omega (arith, row-length))))
-    tested false z = same-test _ false
-        (λ t. z .some refl (λ j k. sym (row-at j (omega (arith, row-length))) ∙ tells .0 t j (omega (arith, row-length)))) (λ t. absurd t)
-
-    first-row : getD (rows w (l + 1) s) 0 [] ≡ take w s
-    unfolding rows
-    first-row = rw (add-one l) refl
-
-    found-end : (r : Bool) → Zeros a w d r → found (ops q) 0 (curve w l a d) ≡ cond r ([] ∷ []) []
-    unfolding found
-    found-end r z = ap (λ (b : Bool). cond b ([] ∷ []) []) (ap (zeros (ops q)) first-row ∙ tested r z)
+  found-end : found (ops q) 0 (curve w l a d) ≡ cond (blank (run a (a + w - a) d)) ([] ∷ []) []
+  unfolding found
+  found-end = ap (λ (b : Bool). cond b ([] ∷ []) []) (ap (zeros (ops q)) first-row ∙ zeros-blank q row row-low ∙ ap blank (sym row-part))
 
 -- the messages found where no symbol is left: by what the test of the row at y^0 says, one or none
-module _ {h : Sizes} {a n : ℕ} {d b z : List ℕ} {t : Tally} {fs : List (List ℕ)} {r : Bool} (ready : Ready h 0 a d b z t fs n) (told : Zeros a (h .w) d r) where
+module _ {h : Sizes} {a n : ℕ} {d b z : List ℕ} {t : Tally} {fs : List (List ℕ)} {r : Bool} (ready : Ready h 0 a d b z t fs n)
+    (told : r ≡ blank (run a (a + h .w - a) d)) where
   ends : (x : Bool) → r ≡ x → found (ops (h .q)) 0 (curve (h .w) (h .l) a d) ≡ cond x ([] ∷ []) []
-  ends x e = found-end (h .q) (h .w) (h .l) a d (ready .low) (omega (arith, ready .slots)) r told ∙ ap (λ (y : Bool). cond y ([] ∷ []) []) e
+  ends x e = found-end (h .q) (h .w) (h .l) a d (ready .low) (omega (arith, ready .slots)) ∙ ap (λ (y : Bool). cond y ([] ∷ []) []) (sym told ∙ e)
 
   pub found-one : not r ≡ false → found (ops (h .q)) 0 (curve (h .w) (h .l) a d) ≡ [] ∷ []
   found-one e = ends true (not-false r e)

@@ -142,7 +142,7 @@ module _ {q k w l : ℕ} {c d z : List ℕ} {t : Tally} (asked : Asked q k w l c
 
   pub started : (b : List ℕ) → k ≤ length b → Ready sizes k S d₂ b z t fs ns
   started b fits = record {
-    shaped = record { field = asked .field; symbols = asked .symbols; wide = asked .wide; tall = asked .tall };
+    sized = record { field = asked .field; symbols = asked .symbols; wide = asked .wide; tall = asked .tall };
     placed = omega arith;
     spare = omega arith;
     slots = omega (arith, slots, len, st .moved .len);

@@ -136,7 +136,7 @@ module _ (h : Sizes) (left a : ℕ) (d b z : List ℕ) (t : Tally) where
 
       pub enter : Ready h (left - 1) (a + S) d₂ b₂ z₁ all found′ tried′
       enter = record {
-        shaped = ready .shaped;
+        sized = ready .sized;
         placed = omega (arith, ready .placed);
         spare = omega arith;
         slots = omega (arith, ready .slots, peel left S some, seen .slots, nx .len);
@@ -204,7 +204,7 @@ ready-end e r = rw e at r
 pub ready-walk : {h : Sizes} {left a : ℕ} {d b z : List ℕ} {t : Tally} (fs : List (List ℕ)) (n : ℕ) → 0 < n → Ready h left a d b z t fs n →
     Ready h left a d b z (record { found = t .found; tried = t .tried + 1 }) fs (n - 1)
 ready-walk fs n o r = record {
-  shaped = r .shaped;
+  sized = r .sized;
   placed = r .placed;
   spare = r .spare;
   slots = r .slots;

@@ -1,5 +1,5 @@
 -- What the search needs and leaves: the tally, the roots, and the slots and symbols of the beginnings that stay.
-use mathlib.Core.Bool.{Bool, true, false, not}
+use mathlib.Core.Bool.{not}
 use mathlib.Core.List.{List, _++_, map, flatten}
 use mathlib.Core.Path.{_≡_}
 use Prim.Native.Nat.{ℕ, _+_, _-_, _*_, _^_, _<_, _≤_}
@@ -36,13 +36,8 @@ listed p fs = flatten (map (_++_ p) fs)
 abbrev pub Written : List ℕ → ℕ → List ℕ → List ℕ → Type 0
 Written xs a d e = Changed (λ j. getD xs j 0) a (length xs) d e
 
--- the answer says whether the n numbers from a on are all zero
-pub record Zeros (a n : ℕ) (d : List ℕ) (r : Bool) : Type 0 where
-  pub zero : r ≡ true → (j : ℕ) → j < n → getD d (a + j) 0 ≡ 0
-  pub some : r ≡ false → ¬ ((j : ℕ) → j < n → getD d (a + j) 0 ≡ 0)
-
 -- A field, and rows and symbols as many as there is room for.
-pub record Shaped (h : Sizes) : Type 0 where
+pub record Sized (h : Sizes) : Type 0 where
   pub field : T (modulus (h .q))
   pub symbols : 1 ≤ h .k
   pub wide : 0 < h .w
@@ -51,7 +46,7 @@ pub record Shaped (h : Sizes) : Type 0 where
 -- With `left` symbols to place, the slot at a holds a curve from which the messages fs are found and n beginnings are tried:
 -- there is room for its slots and the roots, and the counts fit.
 pub record Ready (h : Sizes) (left a : ℕ) (work begun roots : List ℕ) (t : Tally) (fs : List (List ℕ)) (n : ℕ) : Type 0 where
-  pub shaped : Shaped h
+  pub sized : Sized h
   pub placed : left ≤ h .k
   pub spare : size h ≤ a
   pub slots : a + (left * size h + size h) ≤ length work

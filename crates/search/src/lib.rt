@@ -2,7 +2,8 @@
 ghost use mathlib.Core.Path.{_≡_};
 ghost use Prim.Native.Nat.{_+_, _-_, _*_, _<_, _≤_};
 ghost use lib.ListN.{length, take};
-ghost use Rattle.search.specs.Search.{found-at, tried-at, listed, Written, Zeros, Ready, Searched, Asked, Given, Roots, spare, none};
+ghost use Rattle.search.specs.Search.{found-at, tried-at, listed, Written, Ready, Searched, Asked, Given, Roots, spare, none};
+use field::runs::all_zero;
 use field::runs::copy;
 
 pub mod slot;
@@ -19,21 +20,6 @@ pub struct Sizes {
     pub k: usize,
     pub w: usize,
     pub l: usize,
-}
-
-// Whether the n numbers from a on are all zero.
-fn is_zero(a: usize, n: usize, work: &[u16]) -> bool
-    requires { ⌜ a + n ≤ length (now work) ⌝ }
-    ensures { λ r. ⌜ Zeros a n (now (work .entry)) r ⌝ }
-{
-    let mut i: usize = 0;
-    while i < n {
-        if work[a + i] != 0 {
-            return false;
-        }
-        i += 1;
-    }
-    true
 }
 
 // Writes the k symbols of the beginning to the roots, from place a on.
@@ -58,7 +44,8 @@ fn settle(h: Sizes, a: usize, work: &[u16], begun: &[u16], roots: &mut [u16], t:
     let w = h.w;
     let k = h.k;
     let count = t.found;
-    if !is_zero(a, w, work) {
+    let e = a + w;
+    if !all_zero(&work[a..e]) {
         return Tally {
             found: count,
             tried: t.tried + 1,

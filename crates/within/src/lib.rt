@@ -1,11 +1,10 @@
-// Runs of symbols inside one lent buffer, modulo q, which names a field; and a polynomial's value.
+// Runs of symbols inside one lent buffer, modulo q, which names a field.
 ghost use mathlib.Core.Logic.{_⊎_};
 ghost use mathlib.Core.Path.{_≡_};
 ghost use Prim.Native.Nat.{_+_, _≤_};
 ghost use lib.Dec.{T};
 ghost use lib.ListN.{length, getD};
-ghost use Rattle.rules.specs.Code.{eval as value-at};
-ghost use Rattle.rules.specs.Field.{ops, modulus};
+ghost use Rattle.rules.specs.Field.{modulus};
 ghost use Rattle.buffers.specs.Change.{Changed};
 ghost use Rattle.within.specs.Runs.{Apart, added, shifted, moved, cut};
 use field::symbols::mixed;
@@ -83,18 +82,4 @@ pub fn strip_run(work: &mut [u16], a: usize, b: usize, v: usize, n: usize)
         work[b + i] = x;
         i += 1;
     }
-}
-
-// The value at x of the polynomial f.
-pub fn eval(q: u16, f: &[u16], x: u16) -> u16
-    requires { ⌜ T (modulus q) ⌝ }
-    ensures { λ r. ⌜ r ≡ value-at (ops q) (now (f .entry)) x ⌝ }
-{
-    let mut sum: u16 = 0;
-    let mut i = f.len();
-    while 0 < i {
-        i -= 1;
-        sum = mixed(q, f[i], x, sum);
-    }
-    sum
 }

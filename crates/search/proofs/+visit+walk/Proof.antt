@@ -124,21 +124,21 @@ module _ (t : ℕ) where
       let start = c .before .before .before .before in
       let x = start .args in
       let p = start .pre .1 in
-      omega (arith, p .1 .slots, p .1 .shaped .tall, peel (x .left) (size (x .h)) (p .0))
+      omega (arith, p .1 .slots, p .1 .sized .tall, peel (x .left) (size (x .h)) (p .0))
 
   walk-mul-after : walk-lts.Need-mul-after walk-claims (walk-at t) walk.Post walk-Inv-loop walk-μ-loop
   walk-mul-after c =
       let start = c .before .before .before .before in
       let x = start .args in
       let p = start .pre .1 in
-      omega (arith, p .1 .slots, p .1 .shaped .tall, peel (x .left) (size (x .h)) (p .0))
+      omega (arith, p .1 .slots, p .1 .sized .tall, peel (x .left) (size (x .h)) (p .0))
 
   walk-add-after-2 : walk-lts.Need-add-after-2 walk-claims (walk-at t) walk.Post walk-Inv-loop walk-μ-loop
   walk-add-after-2 c =
       let start = c .before .before .before .before in
       let x = start .args in
       let p = start .pre .1 in
-      omega (arith, p .1 .slots, p .1 .shaped .tall, peel (x .left) (size (x .h)) (p .0))
+      omega (arith, p .1 .slots, p .1 .sized .tall, peel (x .left) (size (x .h)) (p .0))
 
   walk-loop-holds : walk-lts.Need-loop-holds walk-claims (walk-at t) walk.Post walk-Inv-loop walk-μ-loop
   walk-loop-holds c = let x = c .before .before .before .before .args in
@@ -152,7 +152,7 @@ module _ (t : ℕ) where
       let p = start .pre .1 in
       let l = at-loop .loop in
       let gq : l .g < x .h .q = omega arith in
-      (p .1 .shaped .field, p .1 .shaped .wide, p .1 .shaped .tall, omega (arith, room-next _ _ _ _ _ _ _ (p .0) (p .1) _ gq (l .inv .1)))
+      (p .1 .sized .field, p .1 .sized .wide, p .1 .sized .tall, omega (arith, room-next _ _ _ _ _ _ _ (p .0) (p .1) _ gq (l .inv .1)))
 
   walk-mul-begun : walk-lts.Need-mul-begun walk-claims (walk-at t) walk.Post walk-Inv-loop walk-μ-loop
   walk-mul-begun c =
@@ -176,10 +176,10 @@ module _ (t : ℕ) where
       let p = start .pre .1 in
       let l = at-loop .loop in
       let gq : l .g < x .h .q = omega arith in (
-        p .1 .shaped .field,
+        p .1 .sized .field,
         omega arith,
-        p .1 .shaped .wide,
-        p .1 .shaped .tall,
+        p .1 .sized .wide,
+        p .1 .sized .tall,
         p .1 .spare,
         room-next _ _ _ _ _ _ _ (p .0) (p .1) _ gq (l .inv .1),
         same-low _ _ _ _ _ _ _ (p .0) (p .1) _ gq (l .inv .1),
@@ -209,7 +209,7 @@ module _ (t : ℕ) where
   walk-add-g : walk-lts.Need-add-g walk-claims (walk-at t) walk.Post walk-Inv-loop walk-μ-loop
   walk-add-g c =
       let start = walk-entry (c .before .before .before .before) in
-      omega (arith, modulus-small (start .args .h .q) (start .pre .1 .1 .shaped .field))
+      omega (arith, modulus-small (start .args .h .q) (start .pre .1 .1 .sized .field))
 
   walk-loop-less : walk-lts.Need-loop-less walk-claims (walk-at t) walk.Post walk-Inv-loop walk-μ-loop
   walk-loop-less c = search needs

@@ -2,7 +2,6 @@
 use mathlib.Core.List.{[]}
 use mathlib.Core.Path.{refl, sym, ap, _∙_}
 use lib.ListN.{length, take}
-use Rattle.buffers.proofs.Rows.{row-end}
 use Rattle.search.specs.Search.{listed}
 use Rattle.search.proofs.Roots.{written-none, written-to, listed-none, listed-one, found-one, found-none, room-one, count-fits}
 use native.Mathlib.Omega.{arith}
@@ -10,60 +9,62 @@ use borrow.Author.Needs.{needs}
 use Rattle.search.proofs.settle.Statement.{statement}
 use Rattle.search.proofs.settle.Tie as tie
 
--- the start, as the test of the row looks back to it
-abbrev entry : tie.After-is-zero → tie.Start
-entry c = c .before .before .before .before
+add-e : tie.Need-add-e
+add-e c = search needs
 
-is-zero-requires : tie.Need-is-zero-requires
-is-zero-requires c κs =
-    let start = c .before .before .before in
-    let x = start .args in
-    omega (arith, start .pre .slots, row-end (x .h .l) (x .h .w))
+mul-all-zero : tie.Need-mul-all-zero
+mul-all-zero c = search needs
 
-add-t12 : tie.Need-add-t12
-add-t12 c = search needs
+sub-all-zero : tie.Need-sub-all-zero
+sub-all-zero c = search needs
+
+part-all-zero-start : tie.Need-part-all-zero-start
+part-all-zero-start c = search needs
+
+part-all-zero-end : tie.Need-part-all-zero-end
+part-all-zero-end c = search needs
+
+all-zero-requires : tie.Need-all-zero-requires
+all-zero-requires c κs = search needs
+
+add-t18 : tie.Need-add-t18
+add-t18 c = search needs
 
 returns : tie.Need-returns
 returns c =
-    let at-is-zero = c .before .before in
-    let start = entry at-is-zero in
+    let at-all-zero = c .before .before in
+    let start = at-all-zero .before .before .before .before .before in
     let x = start .args in
-    let p = start .pre in
-    let f = found-none p (at-is-zero .is-zero .ensures) (c .before .if1 .taken) in (
+    let f = found-none (start .pre) (at-all-zero .all-zero .ensures) (c .before .if1 .taken) in (
       omega (arith, ap length f),
       refl,
       written-to [] _ (written-none _ _) (sym (ap (listed (take (x .h .k) (x .begun .now))) f ∙ listed-none (take (x .h .k) (x .begun .now)))),
     )
 
 mul-put : tie.Need-mul-put
-mul-put c =
-    let start = entry (c .before) in
-    let x = start .args in
-    let p = start .pre in
-    let f = found-one p (c .before .is-zero .ensures) (c .if1 .left) in
-    omega (arith, room-one (x .t .found) (x .h .k) _ _ f (p .room))
+mul-put c = search needs
 
 put-requires : tie.Need-put-requires
 put-requires c κs =
-    let at-is-zero = c .before .before in
-    let start = entry at-is-zero in
+    let at-all-zero = c .before .before in
+    let start = at-all-zero .before .before .before .before .before in
     let x = start .args in
     let p = start .pre in
-    let f = found-one p (at-is-zero .is-zero .ensures) (c .before .if1 .left) in
+    let f = found-one p (at-all-zero .all-zero .ensures) (c .before .if1 .left) in
     (p .beginning, room-one (x .t .found) (x .h .k) _ _ f (p .room))
 
 add-t14 : tie.Need-add-t14
 add-t14 c =
     let at-if1 = c .before .before .before .before in
-    let at-is-zero = at-if1 .before in
-    let start = entry at-is-zero in
+    let at-all-zero = at-if1 .before in
+    let start = at-all-zero .before .before .before .before .before in
     let x = start .args in
     let p = start .pre in
-    let f = found-one p (at-is-zero .is-zero .ensures) (at-if1 .if1 .left) in
-    omega (arith, count-fits (x .t .found) (x .h .k) _ (p .shaped .symbols) (room-one (x .t .found) (x .h .k) _ _ f (p .room)))
+    let f = found-one p (at-all-zero .all-zero .ensures) (at-if1 .if1 .left) in
+    omega (arith, count-fits (x .t .found) (x .h .k) _ (p .sized .symbols) (room-one (x .t .found) (x .h .k) _ _ f (p .room)))
 
-add-t17 : tie.Need-add-t17
-add-t17 c = search needs
+add-t12 : tie.Need-add-t12
+add-t12 c = search needs
 
 same-length : tie.Need-same-length
 same-length c = search needs
@@ -71,11 +72,10 @@ same-length c = search needs
 returns-2 : tie.Need-returns-2
 returns-2 c =
     let at-if1 = c .before .before .before .before .before in
-    let at-is-zero = at-if1 .before in
-    let start = entry at-is-zero in
+    let at-all-zero = at-if1 .before in
+    let start = at-all-zero .before .before .before .before .before in
     let x = start .args in
-    let p = start .pre in
-    let f = found-one p (at-is-zero .is-zero .ensures) (at-if1 .if1 .left) in (
+    let f = found-one (start .pre) (at-all-zero .all-zero .ensures) (at-if1 .if1 .left) in (
       omega (arith, ap length f),
       refl,
       written-to (take (x .h .k) (x .begun .now)) _ (c .before .before .before .put .ensures)
@@ -86,12 +86,17 @@ pub settle-spec : {M : Type 1} → statement M
 settle-spec =
     tie.close
     (tie.spec
-    is-zero-requires
-    add-t12
+    add-e
+    mul-all-zero
+    sub-all-zero
+    part-all-zero-start
+    part-all-zero-end
+    all-zero-requires
+    add-t18
     returns
     mul-put
     put-requires
     add-t14
-    add-t17
+    add-t12
     same-length
     returns-2)

@@ -1,15 +1,15 @@
--- `reader::slices::all_distinct` meets its contract: what is passed is none of those behind it, so that the test is that of the rest.
+-- all_distinct: what is passed is none of those behind it, so that the test is that of the rest.
 use Prim.Native.Nat.{_+_, _-_}
 use mathlib.Core.Path.{_≡_, refl, _∙_}
 use lib.Dec.{eqb}
 use lib.ListN.{length, drop}
 use borrow.Author.Tests.{not-true, not-false}
 use Rattle.rules.specs.Lists.{distinct}
-use Rattle.reader.proofs.Scan.{scan-more, scan-fails, scan-ends, distinct-scan, new-of-part}
+use Rattle.field.proofs.Scan.{scan-more, scan-fails, scan-ends, distinct-scan, new-of-part}
 use native.Mathlib.Omega.{arith}
 use borrow.Author.Needs.{needs}
-use Rattle.reader.proofs.slices.all_distinct.Statement.{statement}
-use Rattle.reader.proofs.slices.all_distinct.Tie as tie
+use Rattle.field.proofs.runs.all_distinct.Statement.{statement}
+use Rattle.field.proofs.runs.all_distinct.Tie as tie
 
 abbrev Inv-loop : tie.InvT-loop
 Inv-loop points i₀ i = distinct eqb points ≡ distinct eqb (drop i points)
@@ -46,8 +46,9 @@ is-new-requires c κs = search needs
 
 returns : tie.Need-returns Inv-loop μ-loop
 returns c =
-    let l = c .before .before .before .before .before .loop in
-    let a = c .before .before .before .before .before .before .before .args in
+    let at-loop = c .before .before .before .before .before in
+    let l = at-loop .loop in
+    let a = at-loop .before .before .args in
     scan-fails distinct-scan _ (l .i) (l .inv) (omega arith)
     (new-of-part (a .points .now) (l .i + 1) _ (c .before .is-new .ensures) ∙ not-true _ (c .if1 .taken))
 
@@ -56,8 +57,9 @@ loop-less c = search needs
 
 loop-again : tie.Need-loop-again Inv-loop μ-loop
 loop-again c =
-    let l = c .before .before .before .before .before .loop in
-    let a = c .before .before .before .before .before .before .before .args in
+    let at-loop = c .before .before .before .before .before in
+    let l = at-loop .loop in
+    let a = at-loop .before .before .args in
     scan-more distinct-scan _ (l .i) (l .inv) (omega arith)
     (new-of-part (a .points .now) (l .i + 1) _ (c .before .is-new .ensures) ∙ not-false _ (c .if1 .left))
 

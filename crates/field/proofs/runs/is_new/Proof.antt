@@ -1,4 +1,4 @@
--- `reader::slices::is_new` meets its contract: what is passed is not x, so that the test is that of the rest.
+-- is_new: what is passed is not x, so that the test is that of the rest.
 use Prim.Native.Nat.{_-_}
 use mathlib.Core.Path.{_≡_, refl, sym, ap}
 use mathlib.Core.Bool.{not}
@@ -8,9 +8,9 @@ use lib.ListN.{length, drop, getD}
 use borrow.Author.Needs.{needs}
 use borrow.Author.Tests.{eq-eqb, ne-eqb}
 use Rattle.rules.specs.Lists.{all}
-use Rattle.reader.proofs.Scan.{scan-more, scan-fails, scan-ends, all-scan}
-use Rattle.reader.proofs.slices.is_new.Statement.{statement}
-use Rattle.reader.proofs.slices.is_new.Tie as tie
+use Rattle.field.proofs.Scan.{scan-more, scan-fails, scan-ends, all-scan}
+use Rattle.field.proofs.runs.is_new.Statement.{statement}
+use Rattle.field.proofs.runs.is_new.Tie as tie
 
 abbrev Inv-loop : tie.InvT-loop
 Inv-loop x others i₀ i = all (λ y. not (eqb x y)) others ≡ all (λ y. not (eqb x y)) (drop i others)

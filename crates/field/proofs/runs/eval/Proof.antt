@@ -4,11 +4,11 @@ use Prim.Native.Nat.{ℕ, _-_, _≤_}
 use lib.ListN.{length, getD, drop}
 use Rattle.rules.specs.Code.{eval}
 use Rattle.rules.specs.Field.{ops, plus, times}
-use Rattle.within.proofs.Read.{eval-none, eval-more, eval-all}
+use Rattle.field.proofs.Value.{eval-none, eval-more, eval-all}
 use native.Mathlib.Omega.{arith}
 use borrow.Author.Needs.{needs}
-use Rattle.within.proofs.eval.Statement.{statement}
-use Rattle.within.proofs.eval.Tie as tie
+use Rattle.field.proofs.runs.eval.Statement.{statement}
+use Rattle.field.proofs.runs.eval.Tie as tie
 
 abbrev Inv-loop : tie.InvT-loop
 Inv-loop q f x sum₀ i₀ sum i = (i ≤ length f) × (sum ≡ eval (ops q) (drop i f) x)
