@@ -108,6 +108,8 @@ pub record Second : Type 0 where
   pub two : used → ℕ
 unfoldable pub a-longer-name : ℕ
 a-longer-name = used
+  where
+    local : ℕ
 """
     RATTLE = """// fn said() and pub fn commented()
 use other::brought;
@@ -118,7 +120,8 @@ pub fn a_longer_name(given: u16) -> u16 {
 
     def test_only_a_declaration_counts(self):
         for body, there in [(self.ANTT, ["First", "Second", "one", "two", "a-longer-name"]), (self.RATTLE, ["a_longer_name"])]:
-            words = {"said", "commented", "noted", "brought", "given", "used", "longer", "name", "longer-name", "a-longer", "longer_name", "a_longer", "Sec"}
+            parts = {"longer", "name", "longer-name", "a-longer", "longer_name", "a_longer", "Sec"}
+            words = {"said", "commented", "noted", "brought", "given", "used", "local"} | parts
             self.assertEqual([name for name in sorted(words.union(there)) if declares(body, name)], sorted(there))
 
     def test_a_field_is_its_own_record_s(self):
