@@ -1,4 +1,4 @@
-# Whether what the documents name is there: statements in their files, edits, crates.
+# Whether what the documents name is there: statements declared in their files, fields in their records, edits, crates.
 import re
 import unittest
 from pathlib import Path
@@ -19,9 +19,41 @@ def named(cell):
     return re.findall(r"`([^`]+)`", cell)
 
 
-def has(body, name):
-    """Whether the name stands in the body by itself, and not inside a longer one."""
-    return re.search(r"(?<![\w-])" + re.escape(name) + r"(?![\w-])", body) is not None
+def declares(body, name):
+    """Whether a line of the body declares the name. A comment, a `use` line and a use of the name do not."""
+    antt, rattle = r" *(unfoldable |abbrev )?pub ((record|data) )?", r'(pub )?(extern "C" )?(fn|struct|enum) '
+    return re.search(rf"^({antt}|{rattle}){re.escape(name)}(?=[ (])", body, re.MULTILINE) is not None
+
+
+def record(body, name):
+    """The lines of the record of this name: those below its head that stand further in."""
+    found = re.search(rf"^( *)pub record {re.escape(name)} .*\n((\1 +.*\n)*)", body, re.MULTILINE)
+    return found[2] if found else ""
+
+
+def owned(cell):
+    """Where the cell says `field`, of `Record`: each of the fields with each of the records."""
+    said = re.match(r"((?:`[^`]+`(?:, | and )?)+?),? of ((?:`[^`]+`(?: and )?)+)", cell)
+    return [(field, owner) for field in named(said[1]) for owner in named(said[2])] if said else []
+
+
+def lost(body, cell):
+    """The names of the cell that the body does not declare, and its fields that are not in their records."""
+    parts = [(name, body) for name in named(cell)] + [(field, record(body, owner)) for field, owner in owned(cell)]
+    return [name for name, part in parts if not declares(part, name)]
+
+
+def statements():
+    """The rows of docs/PROOFS.md: the cell of names, and the file's path."""
+    return [(row[1], row[2]) for row in cells("docs/PROOFS.md") if len(row) == 3 and "/" in row[2]]
+
+
+def placed(column):
+    """Each name of the cells with its file: the one behind it, or else that of the name before."""
+    path = None
+    for name, behind in re.findall(r"`([^`]+)`(?:, ([\w/]+\.antt))?", "|".join(column)):
+        path = behind or path
+        yield name, path
 
 
 def edits():
@@ -30,10 +62,13 @@ def edits():
 
 class Documents(unittest.TestCase):
     def test_each_statement_is_in_its_file(self):
-        rows = [row for row in cells("docs/PROOFS.md") if len(row) == 3 and "/" in row[2]]
-        self.assertGreater(len(rows), 60)
-        missing = [(name, path) for _, names, path in rows for name in named(names) if not has(text("crates", path), name)]
-        self.assertEqual(missing, [])
+        self.assertGreater(len(statements()), 60)
+        self.assertEqual([(name, path) for cell, path in statements() for name in lost(text("crates", path), cell)], [])
+
+    def test_each_unique_statement_is_in_its_file(self):
+        names = list(placed(row[2] for row in cells("docs/STATEMENTS.md")[2:]))
+        self.assertGreater(len(names), 20)
+        self.assertEqual([(name, path) for name, path in names if not declares(text("crates", path), name)], [])
 
     def test_each_edit_is_named_and_each_named_edit_is_there(self):
         there = {edit.stem for edit in edits()}
@@ -58,6 +93,56 @@ class Documents(unittest.TestCase):
         shown = {row[0] for row in cells("README.md") if len(row) == 2}
         self.assertEqual(listed, {path.name for path in TOP.glob("crates/*")})
         self.assertLessEqual(listed, shown)
+
+
+class Lookup(unittest.TestCase):
+    """That the lookup itself misses a name that is not declared."""
+
+    ANTT = """-- said : a comment, which says pub commented : too
+use Other.specs.File.{brought}
+pub record First (given : ℕ) : Type 0 where
+  -- pub noted : a comment
+  pub one : ℕ
+
+pub record Second : Type 0 where
+  pub two : used → ℕ
+unfoldable pub a-longer-name : ℕ
+a-longer-name = used
+  where
+    local : ℕ
+"""
+    RATTLE = """// fn said() and pub fn commented()
+use other::brought;
+pub fn a_longer_name(given: u16) -> u16 {
+    used(given)
+}
+"""
+
+    def test_only_a_declaration_counts(self):
+        for body, there in [(self.ANTT, ["First", "Second", "one", "two", "a-longer-name"]), (self.RATTLE, ["a_longer_name"])]:
+            parts = {"longer", "name", "longer-name", "a-longer", "longer_name", "a_longer", "Sec"}
+            words = {"said", "commented", "noted", "brought", "given", "used", "local"} | parts
+            self.assertEqual([name for name in sorted(words.union(there)) if declares(body, name)], sorted(there))
+
+    def test_a_field_is_its_own_record_s(self):
+        self.assertTrue(declares(record(self.ANTT, "First"), "one"))
+        self.assertFalse(declares(record(self.ANTT, "First"), "two"))
+        self.assertFalse(declares(record(self.ANTT, "Third"), "one"))
+
+    def test_each_renamed_field_is_missed(self):
+        fields = [(cell, path, field) for cell, path in statements() for field, _ in owned(cell)]
+        self.assertGreater(len(fields), 9)
+        for cell, path, field in fields:
+            with self.subTest(field=field):
+                self.assertIn(field, lost(text("crates", path).replace(f"  pub {field} :", f"  pub {field}-so :"), cell))
+
+    def test_a_field_is_told_from_other_names(self):
+        self.assertEqual(owned("`a` and `b`, of `R`, which `x` and `y` give"), [("a", "R"), ("b", "R")])
+        self.assertEqual(owned("`a` of `R` and `S`"), [("a", "R"), ("a", "S")])
+        self.assertEqual(owned("`x`: what is said of `y`"), [])
+
+    def test_a_name_goes_with_the_file_behind_it_or_before(self):
+        self.assertEqual(list(placed(["`a`, x/A.antt: so; `b`", "`c`, y/C.antt"])), [("a", "x/A.antt"), ("b", "x/A.antt"), ("c", "y/C.antt")])
 
 
 if __name__ == "__main__":
