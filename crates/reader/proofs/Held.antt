@@ -38,18 +38,20 @@ module _ (S : Setting) (points word : List ℕ) {curve curve₂ work work₂ : L
     pub read-whatever-held : Same-list (S .k) o o₂
     read-whatever-held = go (ℕ-discrete (read-number S points word output curve work) 0)
       where
-        refusals : o .refusal ≡ o₂ .refusal
-        refusals = read-decided S points word output curve work h .is-number ∙ numbers ∙ sym (read-decided S points word output₂ curve₂ work₂ h₂ .is-number)
+        first : o .refusal ≡ read-number S points word output curve work
+        first = read-decided S points word output curve work h .is-number
+
+        second : o₂ .refusal ≡ read-number S points word output curve work
+        second = read-decided S points word output₂ curve₂ work₂ h₂ .is-number ∙ sym numbers
 
         go : Dec (read-number S points word output curve work ≡ 0) → Same-list (S .k) o o₂
         go (yes z) =
-            let accepted = read-decided S points word output curve work h .is-number ∙ z in
-            let a = read-reads S points word output curve work o h accepted in
-            let a₂ = read-reads S points word output₂ curve₂ work₂ o₂ h₂ (sym refusals ∙ accepted) in
+            let a = read-reads S points word output curve work o h (first ∙ z) in
+            let a₂ = read-reads S points word output₂ curve₂ work₂ o₂ h₂ (second ∙ z) in
             let fs = readings (ops (S .p)) (S .k) (S .n - S .τ) points word in
             let long = readings-long (S .p) (S .k) (S .n - S .τ) points word in
             record {
-              refusal = refusals;
+              refusal = first ∙ sym second;
               found = a .list ∙ sym (a₂ .list);
               list = front (S .k) fs long output (a .list) (a .written) ∙ sym (front (S .k) fs long output₂ (a₂ .list) (a₂ .written));
             }
@@ -58,7 +60,7 @@ module _ (S : Setting) (points word : List ℕ) {curve curve₂ work work₂ : L
             let e₂ = read-decided S points word output₂ curve₂ work₂ h₂ .refused (λ z. n (numbers ∙ z)) in
             let none : (xs : List ℕ) → take (0 * S .k) xs ≡ [] = λ xs. rw (zero-mul (S .k)) refl in
             record {
-              refusal = refusals;
+              refusal = first ∙ sym second;
               found = ap (λ (o : Reading). o .found) e ∙ sym (ap (λ (o : Reading). o .found) e₂);
               list = ap (λ (o : Reading). take (o .found * S .k) (o .output)) e
                   ∙ none output

@@ -26,7 +26,7 @@ use Rattle.reader.proofs.Lowest.{none-first, none-parts}
 use Rattle.reader.proofs.Given.{Given, given, point-named, first-long, first-under, others-given}
 use Rattle.reader.proofs.Scoring.{under-at}
 use Rattle.reader.proofs.First.{setting-named}
-use Rattle.reader.proofs.Decided.{list-decided, read-decided}
+use Rattle.reader.proofs.Decided.{list-decided, read-number, read-decided}
 
 module _ (S : Setting) (points word Q : List ℕ) where
   -- an accepted setting, its points, and a curve of symbols that passes for the word
@@ -96,7 +96,7 @@ module _ (S : Setting) (points word Q output work : List ℕ) where
       rw (d .accepted none) (demanded S points word Q (list-fit none) output)
 
 module _ (S : Setting) (points word output curve work : List ℕ) where
-  pub read-fit : read-refusal S points word (length output) (length curve) (length work) ≡ 0 → (Q : List ℕ) → T (usable S points word Q) → Passing-curve S points word Q
+  pub read-fit : read-number S points word output curve work ≡ 0 → (Q : List ℕ) → T (usable S points word Q) → Passing-curve S points word Q
   unfolding read-refusal word-causes usable long
   read-fit z Q u =
       let first = none-parts (setting-causes S) _ (setting-named S) z in

@@ -1,5 +1,5 @@
 -- Of the exported finding and reading only the curve, and so its beginnings, is free: any two allowed outcomes are equal in all else.
-use mathlib.Core.Path.{_≡_, refl, sym, ap, subst₂, _∙_}
+use mathlib.Core.Path.{refl, sym, ap, subst₂, _∙_}
 use mathlib.Core.List.{List, [], _∷_}
 use Prim.Native.Nat.{ℕ}
 use Rattle.rules.specs.Setting.{Setting}

@@ -1,10 +1,10 @@
 -- Any two outcomes that the contract of an exported call allows are equal: the refusal numbers r, r′, the answers t, t′ and the buffers.
-use mathlib.Core.Path.{_≡_, refl, sym, ap, _∙_}
+use mathlib.Core.Path.{_≡_, sym, ap, _∙_}
 use mathlib.Core.List.{List, [], _∷_}
 use Prim.Native.Nat.{ℕ}
 use Rattle.rules.specs.Setting.{Setting}
 use Rattle.rules.specs.Outcome.{Finding, Listing, Reading, Finds, used}
-use Rattle.reader.specs.Calls.{finding, reading}
+use Rattle.reader.specs.Calls.{finding}
 use Rattle.reader.proofs.Unique.{find-unique, read-unique}
 use Rattle.whitebeamish.specs.Told.{told, List-told, Read-told}
 

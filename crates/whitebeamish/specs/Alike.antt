@@ -1,4 +1,5 @@
--- What any two allowed outcomes of an exported finding or reading have in common, whatever their curves: the refusal numbers, the buffers, the answers t, t′.
+-- What any two allowed outcomes of an exported finding or reading have in common, whatever their curves.
+-- r, r′ are the refusal numbers, out, c, w the output, the curve buffer and the work, and t, t′ the answers.
 use mathlib.Core.Path.{_≡_}
 use mathlib.Core.List.{List}
 use Prim.Native.Nat.{ℕ}
@@ -12,7 +13,7 @@ pub record Alike-find-told (S : Setting) (r r′ : ℕ) (c c′ w w′ : List �
   pub work : w ≡ w′
   pub refused : ¬ (r ≡ 0) → c ≡ c′
 
--- two answers of reading: they are of one length, and have the list length at place 0 and all from place 2 on in common; place 1 has the beginnings
+-- two answers of reading: their length, the list length at place 0 and all from place 2 on are equal; place 1 has the beginnings
 pub record Alike-answer (t t′ : List ℕ) : Type 0 where
   pub long : length t ≡ length t′
   pub found : take 1 t ≡ take 1 t′
