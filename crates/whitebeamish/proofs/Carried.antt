@@ -9,7 +9,7 @@ use mir.Val.{boolByte}
 use Rattle.rules.specs.Setting.{Setting}
 use Rattle.rules.specs.Refusal.{find-refusal}
 use Rattle.rules.specs.Outcome.{Computed, Checked, Derived, Finding, Finds, Listing, used, find-call}
-use Rattle.field.specs.Computed.{answered}
+use Rattle.field.specs.Answer.{answered}
 use Rattle.reader.specs.Calls.{checked, finding, listing}
 use Rattle.whitebeamish.specs.Told.{told, number, derived, List-told}
 
