@@ -17,7 +17,7 @@ mod Checking
 mod Finding
 mod Listing
 mod Reading
-mod Decided
+pub mod Decided
 pub mod Readings
 pub mod Unique
 pub mod Alike

@@ -2,7 +2,7 @@
 use mathlib.Core.Path.{_≡_, refl, sym, ap, ap₂, _∙_}
 use mathlib.Core.Bool.{Bool, true, false, cond}
 use mathlib.Core.List.{List, [], _∷_, _++_, flatten, append-assoc}
-use Prim.Native.Nat.{ℕ, zero, suc, _+_, _*_, _≤_}
+use Prim.Native.Nat.{ℕ, zero, suc, _+_, _-_, _*_, _≤_}
 use native.Mathlib.Nat.{suc-mul}
 use native.Mathlib.Omega.{arith}
 use lib.ListN.{length, take, drop, length-append, length-drop}
@@ -14,6 +14,13 @@ use Rattle.rules.specs.Code.{messages, sifted, scoring, readings}
 use Rattle.rules.specs.Search.{rows}
 use Rattle.rules.specs.Outcome.{over}
 use Rattle.algebra.proofs.Complete.{All, messages-long}
+
+-- the part of n numbers from a on, with the end as the code has it
+pub run-is : (a n : ℕ) (xs : List ℕ) → take (a + n - a) (drop a xs) ≡ take n (drop a xs)
+run-is a n xs = let e : a + n - a ≡ n = omega arith in ap (λ (k : ℕ). take k (drop a xs)) e
+
+pub run-long : (a n : ℕ) (xs : List ℕ) → a + n ≤ length xs → length (take (a + n - a) (drop a xs)) ≡ n
+run-long a n xs l = ap length (run-is a n xs) ∙ length-take-le n (drop a xs) (simp length-drop (omega arith))
 
 -- each of k numbers
 abbrev pub Long : ℕ → List (List ℕ) → Type 0

@@ -5,8 +5,7 @@ use mathlib.Core.List.{List, [], _∷_, _++_, flatten, append-nil}
 use Prim.Native.Nat.{ℕ, _+_, _-_, _*_, _≤_}
 use native.Mathlib.Numerals.{add-one}
 use native.Mathlib.Omega.{arith}
-use lib.ListN.{length, take, drop, length-append, length-drop}
-use lib.Seq.{length-take-le}
+use lib.ListN.{length, take, drop, length-append}
 use borrow.Rule.Slice.PartMut.{putMid}
 use Rattle.rules.specs.Lists.{keep}
 use Rattle.rules.specs.Code.{sifted}
@@ -21,13 +20,7 @@ pub at-most : (b : Bool) (n : ℕ) → cond b (n + 1) n ≤ n + 1
 at-most true n = omega arith
 at-most false n = omega arith
 
--- the part of n numbers from a on, with the end as the code has it
-pub run-is : (a n : ℕ) (xs : List ℕ) → take (a + n - a) (drop a xs) ≡ take n (drop a xs)
-run-is a n xs = let e : a + n - a ≡ n = omega arith in ap (λ (k : ℕ). take k (drop a xs)) e
-
-pub run-long : (a n : ℕ) (xs : List ℕ) → a + n ≤ length xs → length (take (a + n - a) (drop a xs)) ≡ n
-run-long a n xs l = ap length (run-is a n xs) ∙ length-take-le n (drop a xs) (simp length-drop (omega arith))
-
+-- what is put there, with the end as the code has it
 pub put-is : (a n : ℕ) (d f : List ℕ) → putMid a (a + n - a) d f ≡ putMid a n d f
 put-is a n d f = let e : a + n - a ≡ n = omega arith in ap (λ (k : ℕ). putMid a k d f) e
 

@@ -1,12 +1,11 @@
 -- Messages that stand one after the other, and their lines.
 use mathlib.Core.Path.{_≡_, refl, sym, ap, _∙_}
 use mathlib.Core.List.{List, [], _∷_, _++_, flatMap}
-use Prim.Native.Nat.{ℕ, _+_, _-_, _*_, _≤_}
+use Prim.Native.Nat.{ℕ, _+_, _-_, _*_}
 use native.Mathlib.Nat.{mul-add, mul-assoc}
 use native.Mathlib.Numerals.{add-one}
 use native.Mathlib.Omega.{arith}
-use lib.ListN.{length, take, drop, length-drop}
-use lib.Seq.{length-take-le}
+use lib.ListN.{take, drop}
 use Rattle.rules.specs.Search.{rows}
 use Rattle.rules.specs.Patch.{line}
 use Rattle.text.proofs.Written.{flat-snoc}
@@ -28,9 +27,6 @@ lines-more k j a e xs p q =
     ∙ ap (λ n. plus-lines (rows k j xs) ++ line (43 ∷ []) (take k (drop n xs))) p
     ∙ sym (flat-snoc (line (43 ∷ [])) (rows k j xs) (take k (drop (j * k) xs)))
     ∙ ap plus-lines (sym (rows-more k j xs) ∙ ap (λ n. rows k n xs) (sym (add-one j)))
-
-pub part-long : (a k : ℕ) (xs : List ℕ) → a + k ≤ length xs → length (take (a + k - a) (drop a xs)) ≡ k
-part-long a k xs l = let q : a + k - a ≤ length (drop a xs) = simp length-drop (omega arith) in length-take-le (a + k - a) (drop a xs) q ∙ omega arith
 
 -- the bytes that the lines need at most
 pub lines-room : (found k : ℕ) → found * (k * 6 + 2) ≡ found * k * 6 + found * 2

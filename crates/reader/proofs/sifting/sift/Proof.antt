@@ -6,7 +6,8 @@ use native.Mathlib.Nat.{mul-le-mul-right}
 use lib.ListN.{length, take, drop}
 use Rattle.buffers.proofs.Rows.{row-fits}
 use Rattle.reader.specs.Sift.{scores, Sifted}
-use Rattle.reader.proofs.Sifted.{at-most, run-is, run-long, sift-none, sift-more}
+use Rattle.reader.proofs.Runs.{run-is, run-long}
+use Rattle.reader.proofs.Sifted.{at-most, sift-none, sift-more}
 use native.Mathlib.Omega.{arith}
 use borrow.Author.Needs.{needs}
 use Rattle.reader.proofs.sifting.sift.Statement.{statement}

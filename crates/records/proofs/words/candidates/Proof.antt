@@ -7,7 +7,8 @@ use Rattle.rules.specs.Search.{rows}
 use Rattle.buffers.proofs.Rows.{row-end, row-fits}
 use Rattle.text.specs.Wrote.{Wrote}
 use Rattle.text.proofs.Written.{wrote-none, wrote-then, wrote-as, wrote-len}
-use Rattle.records.proofs.Lines.{plus-lines, lines-none, lines-more, part-long}
+use Rattle.reader.proofs.Runs.{run-long}
+use Rattle.records.proofs.Lines.{plus-lines, lines-none, lines-more}
 use native.Mathlib.Omega.{arith}
 use borrow.Author.Needs.{needs}
 use Rattle.records.proofs.words.candidates.Statement.{statement}
@@ -51,7 +52,7 @@ plus-line-requires c κs =
     let start = at-loop .before .before .before in
     let f = row-fits {t = at-loop .loop .j} {n = start .args .found} (start .args .k) (at-loop-test .loop-test .taken) in
     let g = row-fits {t = at-loop .loop .j} {n = start .args .found} (start .args .k * 6 + 2) (at-loop-test .loop-test .taken) in
-    omega (arith, part-long (at-loop .loop .a) (start .args .k) (start .args .list .now) (omega arith))
+    omega (arith, run-long (at-loop .loop .a) (start .args .k) (start .args .list .now) (omega arith))
 
 add-j : tie.Need-add-j Inv-loop μ-loop
 add-j c = search needs
@@ -71,7 +72,7 @@ loop-again c =
     let w = at-plus-line .plus-line .ensures in (
       omega arith,
       omega (arith, row-end (l .j) (x .k)),
-      omega (arith, row-end (l .j) (x .k * 6 + 2), w .0, part-long (l .a) (x .k) (x .list .now) (omega arith)),
+      omega (arith, row-end (l .j) (x .k * 6 + 2), w .0, run-long (l .a) (x .k) (x .list .now) (omega arith)),
       wrote-len (w .1) ∙ l .inv .3,
       wrote-as (wrote-then (l .inv .4) (w .1)) (lines-more (x .k) (l .j) (l .a) (l .a + x .k) (x .list .now) (l .inv .1) refl),
     )
