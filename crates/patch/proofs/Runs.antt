@@ -1,26 +1,25 @@
 -- A run grows turn by turn: a turn that goes on took a whole record, and what is read behind its first two bytes does not change its size.
-use mathlib.Core.Path.{_≡_, refl, sym, ap, _∙_, subst}
+use mathlib.Core.Path.{_≡_, refl, sym, ap, _∙_}
 use mathlib.Core.Logic.{_⊎_, inl, inr}
-use mathlib.Core.Bool.{Bool, true, false, not, cond}
+use mathlib.Core.Bool.{Bool, true, false, not}
 use mathlib.Core.List.{List, [], _∷_, _++_}
 use Prim.Native.Nat.{ℕ, _+_, _-_, _^_, _<_, _≤_}
-use Rattle.buffers.proofs.Change.{lt-or-ge}
 use native.Mathlib.Omega.{arith}
-use native.Mathlib.Decide.{ℕ-discrete}
-use lib.Dec.{T, eqb}
+use lib.Dec.{eqb}
 use lib.ListN.{length, take, drop}
 use lib.Seq.{take-all, take-at, drop-at, length-take-le, take-append-add}
-use borrow.Author.Tests.{not-true, eq-eqb}
+use borrow.Author.Tests.{not-true, eqb-false}
 use borrow.Rule.Slice.PartMut.{postOf, putMid}
-use Rattle.rules.specs.Patch.{Held as Holding, nothing, pairs, length-of, length-fits, size, broken, turn, printed}
+use Rattle.buffers.proofs.Change.{lt-or-ge}
+use Rattle.rules.specs.Patch.{nothing, pairs, length-of, length-fits, size, printed}
 use Rattle.rules.proofs.Tests.{either}
 use Rattle.rules.proofs.Film.{two-size}
-use Rattle.parsing.proofs.Shape.{none-stated, too-short, size-unfit, size-fits, whole-long}
+use Rattle.parsing.proofs.Shape.{none-stated, too-short, size-unfit, whole-long}
 use Rattle.records.specs.declared.Held.{Held}
 use Rattle.records.specs.Holding.{holding, Sound}
 use Rattle.records.proofs.Holding.{turns-are}
+use Rattle.records.proofs.Steps.{goes-on}
 use Rattle.records.proofs.Printed.{taken-printed}
-use Rattle.records.specs.Did.{Stepped}
 use Rattle.records.specs.Taken.{written}
 use Rattle.patch.specs.declared.Left.{Left}
 use Rattle.patch.specs.Run.{Turned, Run}
@@ -56,21 +55,7 @@ module _ (all part : List ℕ) (n begun want rest : ℕ) where
 
 -- where no number is the last, one more fits
 pub not-full : {full : Bool} {n : ℕ} → full ≡ eqb n (2 ^ 64 - 1) → not full ≡ true → n < 2 ^ 64 → n + 1 < 2 ^ 64
-not-full {full} {n} is left l = go (ℕ-discrete n (2 ^ 64 - 1))
-  where
-    go : Dec (n ≡ 2 ^ 64 - 1) → n + 1 < 2 ^ 64
-    go (yes e) = absurd (subst T (sym (eq-eqb n (2 ^ 64 - 1) e) ∙ sym is ∙ not-true full left) tt)
-    go (no h) = omega arith
-
--- a turn that goes on has a whole record
-goes-on : (i : ℕ) (held : Holding) (b : List ℕ) → turn i held b .more ≡ true → broken b ≡ false
-unfolding turn
-goes-on i held [] m = absurd (subst T (sym m) tt)
-goes-on i held (x ∷ bytes) m = go (broken (x ∷ bytes)) refl
-  where
-    go : (t : Bool) → broken (x ∷ bytes) ≡ t → broken (x ∷ bytes) ≡ false
-    go true e = absurd (subst T (sym (rw e at m)) tt)
-    go false e = e
+not-full {full} {n} is left l = let other : ¬ (n ≡ 2 ^ 64 - 1) = eqb-false n (2 ^ 64 - 1) (sym is ∙ not-true full left) in omega arith
 
 module _ {held : Held} {l : Left} (t : Turned held l) where
   pub turned-sound : Sound (l .held)

@@ -1,15 +1,14 @@
 -- Taking the records of an input by step, from the start, writes what crate rules says is printed.
-use mathlib.Core.Path.{_≡_, refl, sym, ap, ap₂, _∙_, subst}
+use mathlib.Core.Path.{_≡_, refl, sym, ap, ap₂, _∙_}
 use mathlib.Core.Bool.{Bool, true, false, cond}
-use mathlib.Core.List.{List, [], _∷_, _++_, flatMap, append-nil}
+use mathlib.Core.List.{List, [], _∷_, _++_, flatMap}
 use Prim.Native.Nat.{ℕ, zero, suc, _+_, _<_, _≤_}
-use native.Mathlib.Numerals.{add-one}
 use native.Mathlib.Omega.{arith}
-use lib.Dec.{T}
-use lib.ListN.{length, take, drop, length-drop}
+use lib.ListN.{length, take, drop, length-take, length-drop}
 use lib.Seq.{sets-eq, take-at}
-use Rattle.rules.specs.Patch.{Held as Holding, nothing, Turn, pairs, length-of, length-fits, size, turn, printed-from, printed}
+use Rattle.rules.specs.Patch.{nothing, Turn, size, turn, printed-from, printed}
 use Rattle.rules.proofs.Film.{two-size}
+use Rattle.parsing.proofs.Shape.{whole-long}
 use Rattle.text.specs.Wrote.{Wrote}
 use Rattle.records.specs.declared.Held.{Held}
 use Rattle.records.specs.declared.Done.{Done}
@@ -17,7 +16,7 @@ use Rattle.records.specs.Holding.{held-of, holding, possible, Sound}
 use Rattle.records.specs.Did.{Did, Stepped}
 use Rattle.records.specs.Taken.{Call, Either, Taken, written}
 use Rattle.records.proofs.Holding.{none-kept, turns-are, kept, sound}
-use Rattle.records.proofs.Steps.{turn-possible}
+use Rattle.records.proofs.Steps.{turn-possible, goes-on}
 
 -- the text at the front of the buffer
 text-of : {t d e : List ℕ} {w : ℕ} → Wrote t 0 d e w → w ≤ length d → take w e ≡ t
@@ -33,12 +32,6 @@ module _ {held : Held} {bytes d e : List ℕ} {r : Done} (s : Sound held) (g : S
 
   turns-next : r .held .turns ≡ held .turns + 1
   turns-next = ap (λ (h : Held). h .turns) (g .did .held) ∙ turns-are (held .turns + 1) _
-
--- a turn that goes on had bytes to take
-goes-on : (i : ℕ) (held : Holding) (input : List ℕ) → turn i held (take (size input) input) .more ≡ true → 0 < length input
-unfolding turn size length-fits length-of pairs
-goes-on i held [] m = absurd (subst T (sym m) tt)
-goes-on i held (x ∷ input) m = omega arith
 
 taken-from : (f : ℕ) (held : Held) (input : List ℕ) (calls : List Call) → Sound held → length input < f → Taken held input calls →
     written calls ≡ printed-from f (held .turns + 1) (held-of held) input
@@ -65,8 +58,8 @@ taken-from (suc f) held input (c ∷ calls) s l t = ap₂ _++_ (text-of (did .te
         written calls ≡ cond (here .more) (printed-from f (suc i) (here .held) rest) []
     behind others true e u =
         let go : here .more ≡ true = sym (did .more) ∙ e in
-        let some = goes-on i (held-of held) input go in
-        let less : length rest < f = omega (arith, two-size input, length-drop (size input) input) in
+        let whole = whole-long (take (size input) input) (goes-on i (held-of held) _ go) in
+        let less : length rest < f = omega (arith, whole, length-take (size input) input, two-size input, length-drop (size input) input) in
         let next : c .done .held .turns + 1 ≡ suc i = omega (arith, turns-next s (t .0)) in
         others less u ∙ rw (go, next, held-next s (t .0)) refl
     behind others false e u = let stop : here .more ≡ false = sym (did .more) ∙ e in rw (stop, u) refl

@@ -133,6 +133,16 @@ turn-possible i held (x ∷ bytes) h =
     (λ _. either Fine _ _ (eqb (kind b) 2) (λ _. come-possible i held (body b) h)
     (λ _. either Fine _ _ (eqb (kind b) 3) (λ _. word-possible i held (body b) h) (λ _. h))))
 
+-- a turn that goes on has a whole record
+pub goes-on : (i : ℕ) (held : Held) (b : List ℕ) → turn i held b .more ≡ true → broken b ≡ false
+unfolding turn
+goes-on i held [] m = absurd (subst T (sym m) tt)
+goes-on i held (x ∷ bytes) m = go (broken (x ∷ bytes)) refl
+  where
+    go : (t : Bool) → broken (x ∷ bytes) ≡ t → broken (x ∷ bytes) ≡ false
+    go true e = absurd (subst T (sym (rw e at m)) tt)
+    go false e = e
+
 -- a call that did this turn, which was begun, did the record's
 pub stepped : {held h : Record} {t : Turn} {bytes d e : List ℕ} {r : Done} → Sound held → h ≡ begun held → Did (h .turns) t d e r →
     t ≡ turn (h .turns) (held-of h) bytes → Stepped held bytes d e r

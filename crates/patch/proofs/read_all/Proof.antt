@@ -1,6 +1,6 @@
 -- read_all: every turn but the last goes on, and each adds one to the turns taken.
-use mathlib.Core.Path.{_≡_, sym, ap, subst, _∙_}
-use Prim.Native.Nat.{_+_, _-_, _^_, _<_}
+use mathlib.Core.Path.{_≡_, ap, subst, _∙_}
+use Prim.Native.Nat.{_-_, _^_, _<_}
 use lib.Dec.{T}
 use borrow.Author.Tests.{not-true, not-false}
 use Rattle.rules.specs.Patch.{nothing}
