@@ -9,7 +9,7 @@ use lib.ListN.{length, length-append}
 use Rattle.rules.specs.Lists.{from, below, sum}
 use Rattle.rules.specs.Field.{Ops}
 use Rattle.rules.specs.Laws.{Laws}
-use Rattle.algebra.specs.Conditions.{Condition, Ready, Ordered}
+use Rattle.algebra.specs.Conditions.{Condition, Ready, Conditions-ordered}
 use Rattle.algebra.specs.Space.{Space, In, rank, Curve, mix, shift, Same, Below, Room, value, Meets, Monic, Basis, Pivot}
 use Rattle.algebra.proofs.Ring.{nil-add, mul-nil, nil-mul, no-zero-divisor, decide}
 use Rattle.algebra.proofs.Rank.{rank-suc, rank-lt, rank-eq}
@@ -87,14 +87,14 @@ module _ (O : Ops) (L : Laws O) (S : Space) where
     meets-same e s = record { each = λ k m. value-ext O L S k _ _ e ∙ s .each k m }
 
     -- conditions in order that Q meets x·Q meets too
-    pub meets-shift : {Q : Curve O} → Ordered cs → Room O S Q → Meets O S cs Q → Meets O S cs (shift O Q)
+    pub meets-shift : {Q : Curve O} → Conditions-ordered cs → Room O S Q → Meets O S cs Q → Meets O S cs (shift O Q)
     meets-shift {Q} o h s = record {
       each = λ k m.
           sym (L .add-nil _) ∙ ap (add _) (sym (ap (mul _) (s .each k m) ∙ mul-nil O L _))
           ∙ sym (value-lin O L S k (shift O Q) _ Q) ∙ value-gain O L S cs k Q (o k m) h s;
     }
 
-    pub order-snoc : (c : Condition Symbol) → Ordered cs → Ready cs c → Ordered (cs ++ (c ∷ []))
+    pub order-snoc : (c : Condition Symbol) → Conditions-ordered cs → Ready cs c → Conditions-ordered (cs ++ (c ∷ []))
     order-snoc c o r k m a e =
         Memᴰ·append-left (c ∷ []) (⊎-elim (λ n. o k n a e) (λ n. subst (Ready cs) (sym (List·Memᴰ·eq-of-singleton n)) r a e) (List·Memᴰ·append-cases cs m))
 

@@ -9,7 +9,7 @@ use native.Mathlib.Decide.{decLt, ℕ-discrete}
 use Rattle.rules.specs.Field.{Ops}
 use Rattle.rules.specs.Laws.{Laws}
 use Rattle.algebra.specs.Poly.{neg}
-use Rattle.algebra.specs.Conditions.{Condition, Ready, Ordered}
+use Rattle.algebra.specs.Conditions.{Condition, Ready, Conditions-ordered}
 use Rattle.algebra.specs.Space.{Space, In, rank, Curve, mix, shift, Same, Below, value, Meets, Top, Monic, Basis, Least, Pivot, Best, Least-curve}
 use Rattle.algebra.proofs.Ring.{nil-add, add-mul, mul-nil, nil-mul, one-mul, neg-add, add-neg, cancel, no-zero-divisor, decide}
 use Rattle.algebra.proofs.Rank.{rank-lt, rank-scan, rank-eq, rank-bound, rank-find}
@@ -20,8 +20,8 @@ module _ (O : Ops) (L : Laws O) (S : Space) where
   open Ops O using (Symbol, nil, one, add, mul)
 
   -- the curve is below rank r, or r is the rank of its greatest term
-  abbrev Peeled : Curve O → ℕ → Type 0
-  Peeled Q r = Below O S Q r ⊎ ((i : ℕ) × (t : ℕ) × (rank S i t ≡ r) × Top O S Q i t)
+  abbrev Top-or-below : Curve O → ℕ → Type 0
+  Top-or-below Q r = Below O S Q r ⊎ ((i : ℕ) × (t : ℕ) × (rank S i t ≡ r) × Top O S Q i t)
 
   -- one term less: a curve below suc r that vanishes at the term of rank r, where there is one, is below r
   lower : (Q : Curve O) (i t : ℕ) → t ≤ S .top → (In S i t → Q i t ≡ nil) → Below O S Q (suc (rank S i t)) → Below O S Q (rank S i t)
@@ -31,15 +31,15 @@ module _ (O : Ops) (L : Laws O) (S : Space) where
       go (yes q) = let w = rank-eq S i t i′ t′ ht (h .column) q in rw (← (w .0), ← (w .1)) (z (rw (← (w .0), ← (w .1)) at h))
       go (no q) = b i′ t′ h (omega arith)
 
-  peel : (Q : Curve O) (r : ℕ) → Below O S Q (suc r) → Peeled Q r
+  peel : (Q : Curve O) (r : ℕ) → Below O S Q (suc r) → Top-or-below Q r
   peel Q r b = found (rank-find S r)
     where
-      split : (i t : ℕ) → t ≤ S .top → rank S i t ≡ r → Dec (i + S .off t < S .wide) → Dec (Q i t ≡ nil) → Peeled Q r
+      split : (i t : ℕ) → t ≤ S .top → rank S i t ≡ r → Dec (i + S .off t < S .wide) → Dec (Q i t ≡ nil) → Top-or-below Q r
       split i t ht e (yes hi) (no n) = inr (i, t, e, record { within = record { column = ht; inside = hi }; some = n; rest = rw e b })
       split i t ht e (yes hi) (yes z) = inl (rw e at (lower Q i t ht (λ h. z) (rw e b)))
       split i t ht e (no hi) z = inl (rw e at (lower Q i t ht (λ h. absurd (hi (h .inside))) (rw e b)))
 
-      found : ((i : ℕ) × (t : ℕ) × (t ≤ S .top) × (rank S i t ≡ r)) ⊎ ((i t : ℕ) → t ≤ S .top → ¬ (rank S i t ≡ r)) → Peeled Q r
+      found : ((i : ℕ) × (t : ℕ) × (t ≤ S .top) × (rank S i t ≡ r)) ⊎ ((i t : ℕ) → t ≤ S .top → ¬ (rank S i t ≡ r)) → Top-or-below Q r
       found (inr n) = inl (λ i t h l. b i t h (let m = n i t (h .column) in omega arith))
       found (inl (i, t, ht, e)) = split i t ht e (decLt _ _) (decide O L _ _)
 
@@ -51,7 +51,7 @@ module _ (O : Ops) (L : Laws O) (S : Space) where
       down zero b = inl b
       down (suc r) b = go (peel Q r b) (down r)
         where
-          go : Peeled Q r → (Below O S Q r → Below O S Q 0 ⊎ ((i : ℕ) × (t : ℕ) × Top O S Q i t)) → Below O S Q 0 ⊎ ((i : ℕ) × (t : ℕ) × Top O S Q i t)
+          go : Top-or-below Q r → (Below O S Q r → Below O S Q 0 ⊎ ((i : ℕ) × (t : ℕ) × Top O S Q i t)) → Below O S Q 0 ⊎ ((i : ℕ) × (t : ℕ) × Top O S Q i t)
           go (inl b′) ih = ih b′
           go (inr (i, t, e, T)) ih = inr (i, t, T)
 
@@ -89,7 +89,7 @@ module _ (O : Ops) (L : Laws O) (S : Space) where
   least-start Q a j s T = omega arith
 
   -- x^e·Q, by where its leading term is
-  climb : {cs : List (Condition Symbol)} {Q : Curve O} {a j : ℕ} → Ordered cs → Monic O S Q a j → Meets O S cs Q → (i : ℕ) → a ≤ i → In S i j →
+  climb : {cs : List (Condition Symbol)} {Q : Curve O} {a j : ℕ} → Conditions-ordered cs → Monic O S Q a j → Meets O S cs Q → (i : ℕ) → a ≤ i → In S i j →
       (h : Curve O) × Monic O S h i j × Meets O S cs h
   climb {Q = Q} {a = a} o M s zero l w = let z : a ≡ 0 = omega arith in (Q, rw z at M, s)
   climb {cs} {Q} {a} {j} o M s (suc i) l w = go (ℕ-discrete a (suc i)) (λ l′. climb o M s i l′ (omega arith))
@@ -114,7 +114,7 @@ module _ (O : Ops) (L : Laws O) (S : Space) where
       under zero Q l s b = value-nil c Q b
       under (suc n) Q l s b = go (peel Q n b) (λ Q′ s′ b′. under n Q′ (omega arith) s′ b′)
         where
-          go : Peeled Q n → ((Q′ : Curve O) → Meets O S cs Q′ → Below O S Q′ n → value O S c Q′ ≡ nil) → value O S c Q ≡ nil
+          go : Top-or-below Q n → ((Q′ : Curve O) → Meets O S cs Q′ → Below O S Q′ n → value O S c Q′ ≡ nil) → value O S c Q ≡ nil
           go (inl b′) ih = ih Q s b′
           go (inr (i, t, e, T)) ih =
               finish (climb (order-snoc O L S c (B .order) r) (B .monic t al) (meets-snoc O L S c (B .meets t al) (calm (decide O L _ _))) i low (T .within))
@@ -165,7 +165,7 @@ module _ (O : Ops) (L : Laws O) (S : Space) where
       vanish zero Q l s b = b
       vanish (suc r) Q l s b = go (peel Q r b) (vanish r Q (omega arith) s)
         where
-          go : Peeled Q r → (Below O S Q r → Below O S Q 0) → Below O S Q 0
+          go : Top-or-below Q r → (Below O S Q r → Below O S Q 0) → Below O S Q 0
           go (inl b′) ih = ih b′
           go (inr (i, t, e, U)) ih = absurd (omega (arith, least Q i t s U))
 

@@ -36,8 +36,8 @@ module _ {A : Type 0} where
   abbrev pub Ready : List (Condition A) → Condition A → Type 0
   Ready cs c = (a : ℕ) → c .a ≡ suc a → List·Memᴰ (record { point = c .point; symbol = c .symbol; a = a; b = c .b }) cs
 
-  abbrev pub Ordered : List (Condition A) → Type 0
-  Ordered cs = (c : Condition A) → List·Memᴰ c cs → Ready cs c
+  abbrev pub Conditions-ordered : List (Condition A) → Type 0
+  Conditions-ordered cs = (c : Condition A) → List·Memᴰ c cs → Ready cs c
 
 module _ (O : Ops) where
   open Ops O using (Symbol, nil, one, add, mul)

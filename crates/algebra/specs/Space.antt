@@ -10,7 +10,7 @@ use Rattle.rules.specs.Field.{Ops}
 use Rattle.rules.specs.Code.{Triple, zeros}
 use Rattle.rules.specs.Curve.{total, coefficient, weighted, passes}
 use Rattle.algebra.specs.Poly.{neg}
-use Rattle.algebra.specs.Conditions.{Condition, conditions, Ordered, weight}
+use Rattle.algebra.specs.Conditions.{Condition, conditions, Conditions-ordered, weight}
 
 -- The terms x^i·y^t with t ≤ top and i + off t < wide.
 pub record Space : Type 0 where
@@ -90,7 +90,7 @@ module _ (O : Ops) where
 
     -- The curves g after the conditions cs. Curve j is alive where its leading term x^(d j)·y^j is in the space.
     pub record Basis (cs : List (Condition Symbol)) (d : ℕ → ℕ) (g : ℕ → Curve) : Type 0 where
-      pub order : Ordered cs
+      pub order : Conditions-ordered cs
       pub fit : (j : ℕ) → j ≤ S .top → d j + S .off j ≤ S .wide
       pub monic : (j : ℕ) → In S (d j) j → Monic (g j) (d j) j
       pub meets : (j : ℕ) → In S (d j) j → Meets cs (g j)

@@ -20,20 +20,20 @@ abbrev pub Later : ℕ → List ℕ → ℕ → ℕ → ℕ → Type 0
 Later k leads best least j = (least < weight k leads j) ⊎ ((least ≤ weight k leads j) × (best ≤ j))
 
 -- of the first n curves none is alive with a value that is not zero, or best is the one of the least weight
-pub record Scan (k w l : ℕ) (leads values : List ℕ) (n best least : ℕ) : Type 0 where
+pub record Least-scan (k w l : ℕ) (leads values : List ℕ) (n best least : ℕ) : Type 0 where
   pub some : ((best ≡ l + 1) × (least ≡ w)) ⊎ ((best < n) × (least ≡ weight k leads best) × (least < w) × ¬ (getD values best 0 ≡ 0))
   pub low : (j : ℕ) → j < n → ¬ (getD values j 0 ≡ 0) → weight k leads j < w → Later k leads best least j
 
 module _ (k w l : ℕ) (leads values : List ℕ) where
-  pub scan-none : Scan k w l leads values 0 (l + 1) w
+  pub scan-none : Least-scan k w l leads values 0 (l + 1) w
   scan-none = record { some = inl (omega arith); low = λ j u. absurd (omega arith) }
 
-  module _ {n best least : ℕ} (S : Scan k w l leads values n best least) where
+  module _ {n best least : ℕ} (S : Least-scan k w l leads values n best least) where
     bound : least ≤ w
     bound = ⊎-elim (λ x. omega arith) (λ x. omega arith) (S .some)
 
     -- curve n is passed over
-    pub scan-skip : (getD values n 0 ≡ 0) ⊎ (least ≤ weight k leads n) → Scan k w l leads values (n + 1) best least
+    pub scan-skip : (getD values n 0 ≡ 0) ⊎ (least ≤ weight k leads n) → Least-scan k w l leads values (n + 1) best least
     scan-skip s = record {
       some = ⊎-elim inl (λ x. inr (omega arith, x .1, x .2, x .3)) (S .some);
       low = below-more (λ j. ¬ (getD values j 0 ≡ 0) → weight k leads j < w → Later k leads best least j) n (S .low)
@@ -41,7 +41,7 @@ module _ (k w l : ℕ) (leads values : List ℕ) where
     }
 
     -- curve n is better
-    pub scan-take : ¬ (getD values n 0 ≡ 0) → weight k leads n < least → Scan k w l leads values (n + 1) n (weight k leads n)
+    pub scan-take : ¬ (getD values n 0 ≡ 0) → weight k leads n < least → Least-scan k w l leads values (n + 1) n (weight k leads n)
     scan-take v u = record {
       some = inr (omega arith, omega arith, omega (arith, bound), v);
       low = below-more (λ j. ¬ (getD values j 0 ≡ 0) → weight k leads j < w → Later k leads n (weight k leads n) j) n
@@ -49,7 +49,7 @@ module _ (k w l : ℕ) (leads values : List ℕ) where
           (λ a b. inr (omega arith));
     }
 
-  pub scan-picked : {best least : ℕ} → Scan k w l leads values (l + 1) best least → Picked k w l leads values best
+  pub scan-picked : {best least : ℕ} → Least-scan k w l leads values (l + 1) best least → Picked k w l leads values best
   scan-picked {best} {least} S = ⊎-elim
       (λ x. inl (x .0, λ j a. none x j a (ℕ-discrete (getD values j 0) 0)))
       (λ x. inr (record { alive = omega arith; some = x .3; least = least′ x }))

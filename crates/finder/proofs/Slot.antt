@@ -12,7 +12,7 @@ use Rattle.rules.specs.Field.{plus, times}
 use Rattle.buffers.specs.Change.{Changed}
 use Rattle.buffers.proofs.Change.{lt-or-ge}
 use Rattle.buffers.proofs.Rows.{row-fits}
-use Rattle.within.specs.Runs.{Apart, added, moved, shifted}
+use Rattle.within.specs.Runs.{Runs-apart, added, moved, shifted}
 use Rattle.curve.specs.Shape.{Shaped}
 use Rattle.finder.specs.Slot.{slot, place, mixed-at, raised-at, Treated}
 
@@ -27,7 +27,7 @@ module _ {f : ℕ → ℕ → ℕ} {at k w n : ℕ} {d e : List ℕ} (h : Treate
   pub treated-next : (i : ℕ) → getD e (at + place w n i) 0 ≡ getD d (at + place w n i) 0
   treated-next i = h .keep _ (λ t u l v q. let z = digits-lt {q = t} {m = n} {r = u} {c = w} l (omega arith) in omega arith)
 
-  pub treated-away : {l from : ℕ} → n ≤ l → Apart from at (slot w l) → (i : ℕ) → i < w → getD e (from + place w n i) 0 ≡ getD d (from + place w n i) 0
+  pub treated-away : {l from : ℕ} → n ≤ l → Runs-apart from at (slot w l) → (i : ℕ) → i < w → getD e (from + place w n i) 0 ≡ getD d (from + place w n i) 0
   treated-away {l} {from} u p i v = h .keep _ (λ t j a b q.
       let z = digits-lt {q = t} {m = n} {r = j} {c = w} a (omega arith) in
       let r = row-fits {t = n} {n = l + 1} w (omega arith) in
@@ -53,7 +53,7 @@ module _ {f : ℕ → ℕ → ℕ} {at k w n : ℕ} {d e : List ℕ} (h : Treate
           (lt-or-ge x a)
 
 -- a row of the curve from `to` on, plus c times that from `from` on
-pub reduce-more : (q c k w l from to n : ℕ) {row off : ℕ} {d e e′ : List ℕ} → Apart from to (slot w l) → n ≤ l →
+pub reduce-more : (q c k w l from to n : ℕ) {row off : ℕ} {d e e′ : List ℕ} → Runs-apart from to (slot w l) → n ≤ l →
     Treated (mixed-at q c w d from to) to k w n d e →
     Changed (added q c e (from + row) (to + row)) (to + row) (w - off) e e′ → row ≡ n * w → off ≡ n * (k - 1) →
     Treated (mixed-at q c w d from to) to k w (n + 1) d e′

@@ -10,11 +10,11 @@ use Rattle.rules.specs.Field.{plus, times}
 use Rattle.algebra.proofs.Rank.{digit-eq}
 use Rattle.buffers.proofs.Change.{lt-or-ge}
 use Rattle.buffers.proofs.Rows.{row-fits}
-use Rattle.within.specs.Runs.{Apart}
+use Rattle.within.specs.Runs.{Runs-apart}
 use Rattle.finder.specs.Slot.{slot, place, share, mixed-at, Treated, Swept}
 
 -- two slots have no place in common
-pub slots-apart : (s : ℕ) {j p : ℕ} → ¬ (j ≡ p) → Apart (p * s) (j * s) s
+pub slots-apart : (s : ℕ) {j p : ℕ} → ¬ (j ≡ p) → Runs-apart (p * s) (j * s) s
 slots-apart s {j} {p} n = ⊎-elim (λ l. inr (row-fits s l)) (λ l. inl (row-fits s (omega arith))) (lt-or-ge j p)
 
 -- a place of the curve is within its slot

@@ -3,7 +3,7 @@ ghost use Prim.Native.Nat.{_+_, _*_, _<_, _≤_};
 ghost use mathlib.Core.Path.{_≡_};
 ghost use lib.ListN.{length, getD};
 ghost use Rattle.rules.specs.Field.{minus};
-ghost use Rattle.within.specs.Runs.{Apart};
+ghost use Rattle.within.specs.Runs.{Runs-apart};
 ghost use Rattle.curve.specs.Shape.{Shaped};
 ghost use Rattle.finder.specs.Slot.{slot, mixed-at, raised-at, Treated, Started, Swept};
 use field::runs::clear;
@@ -49,7 +49,7 @@ pub fn reduce(
     from: usize,
     to: usize,
 )
-    requires { ⌜ Shaped q k w l × Apart from to (slot w l) × (from + slot w l ≤ length (now work)) × (to + slot w l ≤ length (now work)) ⌝ }
+    requires { ⌜ Shaped q k w l × Runs-apart from to (slot w l) × (from + slot w l ≤ length (now work)) × (to + slot w l ≤ length (now work)) ⌝ }
     ensures { λ _. ⌜ Treated (mixed-at q c w (now (work .entry)) from to) to k w (l + 1) (now (work .entry)) (now (work .exit)) ⌝ }
 {
     let mut t: usize = 0;

@@ -20,9 +20,9 @@ use Rattle.records.specs.Holding.{holding, Sound}
 use Rattle.records.proofs.Holding.{turns-are}
 use Rattle.records.proofs.Steps.{goes-on}
 use Rattle.records.proofs.Printed.{taken-printed}
-use Rattle.records.specs.Taken.{written}
+use Rattle.records.specs.Takes.{written}
 use Rattle.patch.specs.declared.Left.{Left}
-use Rattle.patch.specs.Run.{Turned, Run}
+use Rattle.patch.specs.Completed.{Took, Completed}
 
 -- the first two bytes decide
 size-front : (b rest : List ℕ) → 2 ≤ length b → size (b ++ rest) ≡ size b
@@ -57,21 +57,21 @@ module _ (all part : List ℕ) (n begun want rest : ℕ) where
 pub not-full : {full : Bool} {n : ℕ} → full ≡ eqb n (2 ^ 64 - 1) → not full ≡ true → n < 2 ^ 64 → n + 1 < 2 ^ 64
 not-full {full} {n} is left l = let other : ¬ (n ≡ 2 ^ 64 - 1) = eqb-false n (2 ^ 64 - 1) (sym is ∙ not-true full left) in omega arith
 
-module _ {held : Held} {l : Left} (t : Turned held l) where
+module _ {held : Held} {l : Left} (t : Took held l) where
   pub turned-sound : Sound (l .held)
   turned-sound = rw (t .is-held) (t .stepped .sound)
 
   pub turned-turns : l .held .turns ≡ held .turns + 1
   turned-turns = ap (λ (h : Held). h .turns) (t .is-held ∙ t .stepped .did .held) ∙ turns-are (held .turns + 1) _
 
-  pub last : l .more ≡ false → Run held
+  pub last : l .more ≡ false → Completed held
   last m = record {
     input = t .bytes;
     calls = t .call ∷ [];
     taken = (rw (take-all (size (t .bytes)) (t .bytes) (t .cut)) (t .stepped), rw (sym (t .is-more) ∙ m) refl);
   }
 
-  pub before : l .more ≡ true → Run (l .held) → Run held
+  pub before : l .more ≡ true → Completed (l .held) → Completed held
   before m run = record {
     input = t .bytes ++ run .input;
     calls = t .call ∷ run .calls;
@@ -91,5 +91,5 @@ module _ {held : Held} {l : Left} (t : Turned held l) where
       left = drop-at (t .bytes) (run .input) _ long
 
 -- so the bytes that its calls wrote are what is printed for the bytes that it read
-pub run-printed : (run : Run (holding 0 nothing)) → written (run .calls) ≡ printed (run .input)
+pub run-printed : (run : Completed (holding 0 nothing)) → written (run .calls) ≡ printed (run .input)
 run-printed run = taken-printed (holding 0 nothing) (run .input) (run .calls) refl (run .taken)

@@ -1,2 +1,2 @@
 -- The definitions of the crate.
-pub mod Run
+pub mod Completed

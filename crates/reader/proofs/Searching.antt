@@ -13,7 +13,7 @@ use Rattle.rules.specs.Curve.{weighted}
 use Rattle.rules.specs.Search.{roots, listed}
 use Rattle.rules.specs.Outcome.{over}
 use Rattle.algebra.proofs.Complete.{messages-long}
-use Rattle.search.specs.Search.{Asked, Roots, roots-of, none}
+use Rattle.search.specs.Search.{Asked, Roots-left, roots-of, none}
 use Rattle.search.specs.declared.Tally.{Tally}
 use Rattle.reader.specs.Word.{Listable, scoring-roots}
 use Rattle.reader.specs.Sift.{Scorable, enough}
@@ -52,7 +52,7 @@ module _ {q k w l s : ℕ} {points word curve output work : List ℕ} (h : Lista
     small = h .symbols;
   }
 
-  module _ {work′ found found′ : List ℕ} {r : Tally} (g : Roots q k w l curve work found work′ found′ r) where
+  module _ {work′ found found′ : List ℕ} {r : Tally} (g : Roots-left q k w l curve work found work′ found′ r) where
     pub few-found : r .found * k ≤ l * k
     few-found = mul-le-mul-right {m = r .found} {n = l} k (omega (arith, g .found, g .few))
 

@@ -14,7 +14,7 @@ use Rattle.records.specs.declared.Held.{Held}
 use Rattle.records.specs.declared.Done.{Done}
 use Rattle.records.specs.Holding.{held-of, holding, possible, Sound}
 use Rattle.records.specs.Did.{Did, Stepped}
-use Rattle.records.specs.Taken.{Call, Either, Taken, written}
+use Rattle.records.specs.Takes.{Call, Either, Takes, written}
 use Rattle.records.proofs.Holding.{none-kept, turns-are, kept, sound}
 use Rattle.records.proofs.Steps.{turn-possible, goes-on}
 
@@ -33,7 +33,7 @@ module _ {held : Held} {bytes d e : List ℕ} {r : Done} (s : Sound held) (g : S
   turns-next : r .held .turns ≡ held .turns + 1
   turns-next = ap (λ (h : Held). h .turns) (g .did .held) ∙ turns-are (held .turns + 1) _
 
-taken-from : (f : ℕ) (held : Held) (input : List ℕ) (calls : List Call) → Sound held → length input < f → Taken held input calls →
+taken-from : (f : ℕ) (held : Held) (input : List ℕ) (calls : List Call) → Sound held → length input < f → Takes held input calls →
     written calls ≡ printed-from f (held .turns + 1) (held-of held) input
 unfolding written printed-from flatMap
 taken-from zero held input calls s l t = absurd (omega arith)
@@ -53,8 +53,8 @@ taken-from (suc f) held input (c ∷ calls) s l t = ap₂ _++_ (text-of (did .te
     rest : List ℕ
     rest = drop (size input) input
 
-    behind : (length rest < f → Taken (c .done .held) rest calls → written calls ≡ printed-from f (c .done .held .turns + 1) (held-of (c .done .held)) rest) →
-        (more : Bool) → c .done .more ≡ more → Either more (Taken (c .done .held) rest calls) (calls ≡ []) →
+    behind : (length rest < f → Takes (c .done .held) rest calls → written calls ≡ printed-from f (c .done .held .turns + 1) (held-of (c .done .held)) rest) →
+        (more : Bool) → c .done .more ≡ more → Either more (Takes (c .done .held) rest calls) (calls ≡ []) →
         written calls ≡ cond (here .more) (printed-from f (suc i) (here .held) rest) []
     behind others true e u =
         let go : here .more ≡ true = sym (did .more) ∙ e in
@@ -64,7 +64,7 @@ taken-from (suc f) held input (c ∷ calls) s l t = ap₂ _++_ (text-of (did .te
         others less u ∙ rw (go, next, held-next s (t .0)) refl
     behind others false e u = let stop : here .more ≡ false = sym (did .more) ∙ e in rw (stop, u) refl
 
-pub taken-printed : (held : Held) (input : List ℕ) (calls : List Call) → held ≡ holding 0 nothing → Taken held input calls → written calls ≡ printed input
+pub taken-printed : (held : Held) (input : List ℕ) (calls : List Call) → held ≡ holding 0 nothing → Takes held input calls → written calls ≡ printed input
 unfolding printed possible
 taken-printed held input calls e t =
     taken-from (suc (length input)) held input calls (sound _ _ e tt) (omega arith) t

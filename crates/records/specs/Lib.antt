@@ -2,4 +2,4 @@
 pub mod Holding
 pub mod Did
 pub mod Heard
-pub mod Taken
+pub mod Takes

@@ -14,13 +14,13 @@ use Rattle.buffers.specs.Change.{Changed}
 use Rattle.buffers.proofs.Change.{lt-or-ge, changed-front}
 use Rattle.buffers.proofs.Part.{len-mid}
 use Rattle.buffers.proofs.Rows.{row-fits}
-use Rattle.search.specs.Slot.{run, Below, Substituted, Stripped, Nexted}
+use Rattle.search.specs.Slot.{run, Slot-below, Substituted, Slot-stripped, Nexted}
 use Rattle.search.proofs.Heads.{run-at, run-front}
 use Rattle.search.proofs.Numbers.{rows-values, rows-same, by-cell, number-below}
 use Rattle.search.proofs.Next.{Shifted, step-found, step-tried, step-within}
 
 -- the first slot stripped into the slot from b on
-module _ (w l b : ℕ) (d e : List ℕ) (c : Stripped w l b d e) where
+module _ (w l b : ℕ) (d e : List ℕ) (c : Slot-stripped w l b d e) where
   abbrev S : ℕ
   S = (l + 1) * w
 
@@ -44,8 +44,8 @@ module _ (w l b : ℕ) (d e : List ℕ) (c : Stripped w l b d e) where
 
 module _ (q : ℕ) (m : T (modulus q)) (g : ℕ) (gq : g < q) (w l a : ℕ) (o : 0 < w) (d d₁ d₂ e : List ℕ) (fits : (l + 1) * w ≤ a)
     (room : a + (l + 1) * w + (l + 1) * w ≤ length d)
-    (low : Below q a ((l + 1) * w) d) (copied : Changed (λ i. getD d (a + i) 0) 0 ((l + 1) * w) d d₁) (stepped : Substituted q g w l d₁ d₂)
-    (c : Stripped w l (a + (l + 1) * w) d₂ e) where
+    (low : Slot-below q a ((l + 1) * w) d) (copied : Changed (λ i. getD d (a + i) 0) 0 ((l + 1) * w) d d₁) (stepped : Substituted q g w l d₁ d₂)
+    (c : Slot-stripped w l (a + (l + 1) * w) d₂ e) where
   abbrev n : ℕ
   n = (l + 1) * w
 

@@ -23,8 +23,8 @@ use Rattle.field.proofs.Places.{under-of, zeros-blank}
 use borrow.Author.Tests.{not-true, not-false}
 use Rattle.search.specs.declared.Sizes.{Sizes}
 use Rattle.search.specs.declared.Tally.{Tally}
-use Rattle.search.specs.Slot.{run, Below, curve}
-use Rattle.search.specs.Search.{listed, Written, Ready}
+use Rattle.search.specs.Slot.{run, Slot-below, curve}
+use Rattle.search.specs.Search.{listed, Written, Search-ready}
 use Rattle.search.proofs.Heads.{run-at}
 
 pub written-none : (a : ℕ) (d : List ℕ) → Written [] a d d
@@ -76,7 +76,7 @@ module _ (p : List ℕ) where
   listed-more g (f ∷ fs) = ap₂ _++_ (append-assoc p (g ∷ []) f) (listed-more g fs)
 
 -- the row at y^0 of the curve in a slot
-module _ (q w l a : ℕ) (d : List ℕ) (low : Below q a ((l + 1) * w) d) (fits : a + (l + 1) * w ≤ length d) where
+module _ (q w l a : ℕ) (d : List ℕ) (low : Slot-below q a ((l + 1) * w) d) (fits : a + (l + 1) * w ≤ length d) where
   abbrev row : List ℕ
   row = take w (run a ((l + 1) * w) d)
 
@@ -105,7 +105,7 @@ module _ (q w l a : ℕ) (d : List ℕ) (low : Below q a ((l + 1) * w) d) (fits 
   found-end = ap (λ (b : Bool). cond b ([] ∷ []) []) (ap (zeros (ops q)) first-row ∙ zeros-blank q row row-low ∙ ap blank (sym row-part))
 
 -- the messages found where no symbol is left: by what the test of the row at y^0 says, one or none
-module _ {h : Sizes} {a n : ℕ} {d b z : List ℕ} {t : Tally} {fs : List (List ℕ)} {r : Bool} (ready : Ready h 0 a d b z t fs n)
+module _ {h : Sizes} {a n : ℕ} {d b z : List ℕ} {t : Tally} {fs : List (List ℕ)} {r : Bool} (ready : Search-ready h 0 a d b z t fs n)
     (told : r ≡ blank (run a (a + h .w - a) d)) where
   ends : (x : Bool) → r ≡ x → found (ops (h .q)) 0 (curve (h .w) (h .l) a d) ≡ cond x ([] ∷ []) []
   ends x e = found-end (h .q) (h .w) (h .l) a d (ready .low) (omega (arith, ready .slots)) ∙ ap (λ (y : Bool). cond y ([] ∷ []) []) (sym told ∙ e)

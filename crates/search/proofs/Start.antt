@@ -30,8 +30,8 @@ use Rattle.buffers.proofs.Change.{changed-list}
 use Rattle.buffers.proofs.Part.{len-mid, put-mid}
 use Rattle.search.specs.declared.Sizes.{Sizes}
 use Rattle.search.specs.declared.Tally.{Tally}
-use Rattle.search.specs.Slot.{run, curve, Stripped}
-use Rattle.search.specs.Search.{found-at, tried-at, listed, Asked, Given, Roots, Ready, Searched, roots-of, tried-of, none}
+use Rattle.search.specs.Slot.{run, curve, Slot-stripped}
+use Rattle.search.specs.Search.{found-at, tried-at, listed, Asked, Curve-searched, Roots-left, Search-ready, Searched, roots-of, tried-of, none}
 use Rattle.search.proofs.Heads.{run-at, run-front}
 use Rattle.search.proofs.Numbers.{rows-values}
 use Rattle.search.proofs.Next.{strip-found, strip-tried, strip-within, within-values}
@@ -92,7 +92,7 @@ module _ (q : ℕ) (m : T (modulus q)) (k w l : ℕ) (c : List ℕ) (o : 0 < w) 
   inside t = within-values q m w (l + 1) (k - 1) c low (rows-within F (laws q m h) k w l (map e c) (rw (← weighted-hom (ops q) F e (elt-hom q m h) k w l c) t))
 
 -- d₁ is the buffer with the curve in its spare, d₂ with the curve stripped behind it
-module _ {q k w l : ℕ} {c d z : List ℕ} {t : Tally} (asked : Asked q k w l c d z t) {d₁ d₂ : List ℕ} (st : Stripped w l ((l + 1) * w) d₁ d₂)
+module _ {q k w l : ℕ} {c d z : List ℕ} {t : Tally} (asked : Asked q k w l c d z t) {d₁ d₂ : List ℕ} (st : Slot-stripped w l ((l + 1) * w) d₁ d₂)
     (len : length d₁ ≡ length d) (copied : (j : ℕ) → j < (l + 1) * w → getD d₁ j 0 ≡ getD c j 0) where
   abbrev S : ℕ
   S = (l + 1) * w
@@ -140,7 +140,7 @@ module _ {q k w l : ℕ} {c d z : List ℕ} {t : Tally} (asked : Asked q k w l c
   few-tried : tried-of q k w l c ≤ 1 + l * k
   few-tried = bound q (asked .field) k w l c (asked .wide) (asked .long) low (asked .live)
 
-  pub started : (b : List ℕ) → k ≤ length b → Ready sizes k S d₂ b z t fs ns
+  pub started : (b : List ℕ) → k ≤ length b → Search-ready sizes k S d₂ b z t fs ns
   started b fits = record {
     sized = record { field = asked .field; symbols = asked .symbols; wide = asked .wide; tall = asked .tall };
     placed = omega arith;
@@ -159,7 +159,7 @@ module _ {q k w l : ℕ} {c d z : List ℕ} {t : Tally} (asked : Asked q k w l c
   }
 
   pub given : {d₃ b b′ z′ : List ℕ} {r : Tally} →
-      Searched sizes k S d₂ b z t fs ns d₃ b′ z′ r → Given q k w l c d z t d₃ z′ r
+      Searched sizes k S d₂ b z t fs ns d₃ b′ z′ r → Curve-searched q k w l c d z t d₃ z′ r
   given {d₃} {b} {b′} {z′} {r} s = record {
     found = omega (arith, s .found, ap length is-found);
     tried = omega (arith, s .tried, is-tried);
@@ -223,7 +223,7 @@ copied-spare {q} {k} {w} {l} {c} {d} {z} {t} ys h same =
 
 -- the roots from the front on
 pub roots-front : {q k w l : ℕ} {c d d₁ z d₂ z′ : List ℕ} {r : Tally} → Asked q k w l c d z none → length d₁ ≡ length d →
-    Given q k w l c d₁ z none d₂ z′ r → Roots q k w l c d z d₂ z′ r
+    Curve-searched q k w l c d₁ z none d₂ z′ r → Roots-left q k w l c d z d₂ z′ r
 unfolding over
 roots-front {q} {k} {w} {l} {c} {d} {d₁} {z} {d₂} {z′} {r} a len g = record {
   found = omega (arith, g .found);

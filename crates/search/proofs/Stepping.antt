@@ -17,7 +17,7 @@ use Rattle.prime.proofs.Below.{modulus-two, plus-none}
 use Rattle.buffers.proofs.Change.{lt-or-ge}
 use Rattle.buffers.proofs.Rows.{row-end}
 use Rattle.within.specs.Runs.{moved}
-use Rattle.search.specs.Slot.{Below, Turned, Substituted}
+use Rattle.search.specs.Slot.{Slot-below, Turned, Substituted}
 use Rattle.search.proofs.Numbers.{rows-values, number-zero, number-suc, number-tall, number-below, number-cell}
 
 pub record Stepping (q g w l u : ℕ) (d e : List ℕ) : Type 0 where
@@ -37,7 +37,7 @@ stepped {q} {g} {w} {l} {d} {e} h =
       high = h .high;
     }
 
-module _ (q : ℕ) (m : T (modulus q)) (g : ℕ) (gq : g < q) (w l : ℕ) (d : List ℕ) (b : Below q 0 ((l + 1) * w) d) where
+module _ (q : ℕ) (m : T (modulus q)) (g : ℕ) (gq : g < q) (w l : ℕ) (d : List ℕ) (b : Slot-below q 0 ((l + 1) * w) d) where
   abbrev Q : List (List ℕ)
   Q = rows w (l + 1) d
 

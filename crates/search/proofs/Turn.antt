@@ -15,8 +15,8 @@ use Rattle.algebra.specs.Search.{next, found, tried, Within}
 use Rattle.buffers.proofs.Part.{len-mid}
 use Rattle.search.specs.declared.Sizes.{Sizes}
 use Rattle.search.specs.declared.Tally.{Tally}
-use Rattle.search.specs.Slot.{run, Below, curve, Nexted}
-use Rattle.search.specs.Search.{size, found-at, tried-at, listed, Written, Ready, Searched}
+use Rattle.search.specs.Slot.{run, Slot-below, curve, Nexted}
+use Rattle.search.specs.Search.{size, found-at, tried-at, listed, Written, Search-ready, Searched}
 use Rattle.search.proofs.Heads.{run-at}
 use Rattle.search.proofs.Roots.{listed-none, listed-append, listed-more, written-none, written-append, written-to}
 use Rattle.search.proofs.Walked.{walked, passed, walked-none, passed-none, walked-more, passed-more, walked-most, passed-most, walked-long, hit, hit-tried, miss, miss-tried, found-walked, tried-passed}
@@ -69,7 +69,7 @@ module _ (h : Sizes) (left a : ℕ) (d b z : List ℕ) (t : Tally) where
     placed = λ j l. refl;
   }
 
-  module _ (some : 0 < left) (ready : Ready h left a d b z t (found-at h left a d) (tried-at h left a d - 1)) (g : ℕ) (gq : g < q)
+  module _ (some : 0 < left) (ready : Search-ready h left a d b z t (found-at h left a d) (tried-at h left a d - 1)) (g : ℕ) (gq : g < q)
       {d₁ b₁ z₁ : List ℕ} {all : Tally} (seen : Seen g d₁ b₁ z₁ all) where
     pub room-next : a + S + S ≤ length d₁
     room-next = omega (arith, ready .slots, peel left S some, seen .slots)
@@ -84,7 +84,7 @@ module _ (h : Sizes) (left a : ℕ) (d b z : List ℕ) (t : Tally) where
             let m : j < S = omega (arith, len-mid a S d₁ (omega (arith, room-next))) in
             run-at a S d₁ j m ∙ seen .kept (a + j) (omega (arith, ready .spare)) (omega arith) ∙ sym (run-at a S d j m)
 
-    pub same-low : Below q a S d₁
+    pub same-low : Slot-below q a S d₁
     same-low j l = rw (seen .kept (a + j) (omega (arith, ready .spare)) (omega arith)) (ready .low j l)
 
     -- a symbol that may not follow
@@ -134,7 +134,7 @@ module _ (h : Sizes) (left a : ℕ) (d b z : List ℕ) (t : Tally) where
       few-tried : ns (g + 1) ≤ tried (ops q) left Q - 1
       few-tried = omega (arith, tried-passed q left Q some, passed-most q (left - 1) Q (g + 1) q (omega arith))
 
-      pub enter : Ready h (left - 1) (a + S) d₂ b₂ z₁ all found′ tried′
+      pub enter : Search-ready h (left - 1) (a + S) d₂ b₂ z₁ all found′ tried′
       enter = record {
         sized = ready .sized;
         placed = omega (arith, ready .placed);
@@ -195,14 +195,14 @@ tried-some h left a d n = omega (arith, tried-passed (h .q) left (curve (h .w) (
 
 -- with no symbol left, one beginning is tried
 pub ready-end : {h : Sizes} {left a : ℕ} {d b z : List ℕ} {t : Tally} → left ≡ 0 →
-    Ready h left a d b z t (found-at h left a d) (tried-at h left a d)
-    → Ready h 0 a d b z t (found-at h 0 a d) 1
+    Search-ready h left a d b z t (found-at h left a d) (tried-at h left a d)
+    → Search-ready h 0 a d b z t (found-at h 0 a d) 1
 unfolding tried
 ready-end e r = rw e at r
 
 -- the visit has counted one, the walk counts the rest
-pub ready-walk : {h : Sizes} {left a : ℕ} {d b z : List ℕ} {t : Tally} (fs : List (List ℕ)) (n : ℕ) → 0 < n → Ready h left a d b z t fs n →
-    Ready h left a d b z (record { found = t .found; tried = t .tried + 1 }) fs (n - 1)
+pub ready-walk : {h : Sizes} {left a : ℕ} {d b z : List ℕ} {t : Tally} (fs : List (List ℕ)) (n : ℕ) → 0 < n → Search-ready h left a d b z t fs n →
+    Search-ready h left a d b z (record { found = t .found; tried = t .tried + 1 }) fs (n - 1)
 ready-walk fs n o r = record {
   sized = r .sized;
   placed = r .placed;

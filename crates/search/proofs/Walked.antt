@@ -120,10 +120,10 @@ tried-passed q (suc k) Q l = rw (sub-one (suc k)) refl
 
 -- The messages are all equally long.
 module _ (q : ℕ) where
-  abbrev pub Long : ℕ → Type 0
-  Long k = (Q : List (List ℕ)) (p : List ℕ) → length (listed p (found (ops q) k Q)) ≡ length (found (ops q) k Q) * (length p + k)
+  abbrev pub Messages-long : ℕ → Type 0
+  Messages-long k = (Q : List (List ℕ)) (p : List ℕ) → length (listed p (found (ops q) k Q)) ≡ length (found (ops q) k Q) * (length p + k)
 
-  through-long : (k : ℕ) → Long k → (Q : List (List ℕ)) (p : List ℕ) (g : ℕ) →
+  through-long : (k : ℕ) → Messages-long k → (Q : List (List ℕ)) (p : List ℕ) (g : ℕ) →
       length (listed p (through q k Q g)) ≡ length (through q k Q g) * (length p + suc k)
   through-long k ih Q p g = go (follows (ops q) Q g)
     where
@@ -135,7 +135,7 @@ module _ (q : ℕ) where
           ∙ ap₂ (λ (a b : ℕ). a * b) (sym (length-map (found (ops q) k (next (ops q) g Q)) (_∷_ g))) e
       go false = ap length (listed-none p) ∙ omega arith
 
-  walked-long′ : (k : ℕ) → Long k → (Q : List (List ℕ)) (p : List ℕ) (xs : List ℕ) →
+  walked-long′ : (k : ℕ) → Messages-long k → (Q : List (List ℕ)) (p : List ℕ) (xs : List ℕ) →
       length (listed p (flatMap (through q k Q) xs)) ≡ length (flatMap (through q k Q) xs) * (length p + suc k)
   unfolding flatMap
   walked-long′ k ih Q p [] = ap length (listed-none p) ∙ omega arith
@@ -146,7 +146,7 @@ module _ (q : ℕ) where
       ∙ sym (add-mul (length (through q k Q g)) (length (flatMap (through q k Q) xs)) (length p + suc k))
       ∙ ap (λ (n : ℕ). n * (length p + suc k)) (sym (length-append (through q k Q g) (flatMap (through q k Q) xs)))
 
-  pub long : (k : ℕ) → Long k
+  pub long : (k : ℕ) → Messages-long k
   unfolding found
   long zero Q p = go (zeros (ops q) (getD Q 0 []))
     where

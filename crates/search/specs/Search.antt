@@ -14,7 +14,7 @@ use Rattle.algebra.specs.Search.{Within, found, tried}
 use Rattle.buffers.specs.Change.{Changed}
 use Rattle.search.specs.declared.Sizes.{Sizes}
 use Rattle.search.specs.declared.Tally.{Tally}
-use Rattle.search.specs.Slot.{run, Below, curve}
+use Rattle.search.specs.Slot.{run, Slot-below, curve}
 
 -- the numbers of a slot
 abbrev pub size : Sizes → ℕ
@@ -45,12 +45,12 @@ pub record Sized (h : Sizes) : Type 0 where
 
 -- With `left` symbols to place, the slot at a holds a curve from which the messages fs are found and n beginnings are tried:
 -- there is room for its slots and the roots, and the counts fit.
-pub record Ready (h : Sizes) (left a : ℕ) (work begun roots : List ℕ) (t : Tally) (fs : List (List ℕ)) (n : ℕ) : Type 0 where
+pub record Search-ready (h : Sizes) (left a : ℕ) (work begun roots : List ℕ) (t : Tally) (fs : List (List ℕ)) (n : ℕ) : Type 0 where
   pub sized : Sized h
   pub placed : left ≤ h .k
   pub spare : size h ≤ a
   pub slots : a + (left * size h + size h) ≤ length work
-  pub low : Below (h .q) a (size h) work
+  pub low : Slot-below (h .q) a (size h) work
   pub within : Within (ops (h .q)) (left - 1) (h .w) (curve (h .w) (h .l) a work)
   pub beginning : h .k ≤ length begun
   pub room : (t .found + length fs) * h .k ≤ length roots
@@ -93,7 +93,7 @@ abbrev pub tried-of : ℕ → ℕ → ℕ → ℕ → List ℕ → ℕ
 tried-of q k w l curve = beginnings (ops q) k (rows w (l + 1) curve)
 
 -- The tally counts the roots and the beginnings, at most ℓ and 1 + ℓ·k of them; the roots stand one after the other behind those found before.
-pub record Given (q k w l : ℕ) (curve work roots : List ℕ) (t : Tally) (work′ roots′ : List ℕ) (r : Tally) : Type 0 where
+pub record Curve-searched (q k w l : ℕ) (curve work roots : List ℕ) (t : Tally) (work′ roots′ : List ℕ) (r : Tally) : Type 0 where
   pub found : r .found ≡ t .found + length (roots-of q k w l curve)
   pub tried : r .tried ≡ t .tried + tried-of q k w l curve
   pub list : Written (flatten (roots-of q k w l curve)) (t .found * k) roots roots′
@@ -111,7 +111,7 @@ abbrev pub none : Tally
 none = record { found = 0; tried = 0 }
 
 -- What the search of one curve leaves: the roots from the front of their buffer on, its further places untouched, and both counts.
-pub record Roots (q k w l : ℕ) (curve work roots work′ roots′ : List ℕ) (r : Tally) : Type 0 where
+pub record Roots-left (q k w l : ℕ) (curve work roots work′ roots′ : List ℕ) (r : Tally) : Type 0 where
   pub found : r .found ≡ length (roots-of q k w l curve)
   pub tried : r .tried ≡ tried-of q k w l curve
   pub list : roots′ ≡ over (flatten (roots-of q k w l curve)) roots

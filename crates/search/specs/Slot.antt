@@ -14,8 +14,8 @@ abbrev pub run : ℕ → ℕ → List ℕ → List ℕ
 run a n d = take n (drop a d)
 
 -- the n numbers from a on are below q
-abbrev pub Below : ℕ → ℕ → ℕ → List ℕ → Type 0
-Below q a n d = (j : ℕ) → j < n → getD d (a + j) 0 < q
+abbrev pub Slot-below : ℕ → ℕ → ℕ → List ℕ → Type 0
+Slot-below q a n d = (j : ℕ) → j < n → getD d (a + j) 0 < q
 
 -- each row from u on becomes x times itself plus g times the row after it, and the last row x times itself
 pub record Carried (q g w l u : ℕ) (d e : List ℕ) : Type 0 where
@@ -41,19 +41,19 @@ pub record Substituted (q g w l : ℕ) (d e : List ℕ) : Type 0 where
   pub high : (k : ℕ) → (l + 1) * w ≤ k → getD e k 0 ≡ getD d k 0
 
 -- column i of the first slot is zero
-abbrev pub Clear : ℕ → ℕ → ℕ → List ℕ → Type 0
-Clear w l i d = (t : ℕ) → t < l + 1 → getD d (t * w + i) 0 ≡ 0
+abbrev pub Column-clear : ℕ → ℕ → ℕ → List ℕ → Type 0
+Column-clear w l i d = (t : ℕ) → t < l + 1 → getD d (t * w + i) 0 ≡ 0
 
 -- the answer says whether the column is zero
 pub record Tells (w l i : ℕ) (d : List ℕ) (r : Bool) : Type 0 where
-  pub clear : r ≡ true → Clear w l i d
-  pub stop : r ≡ false → ¬ Clear w l i d
+  pub clear : r ≡ true → Column-clear w l i d
+  pub stop : r ≡ false → ¬ Column-clear w l i d
 
 -- x^v is the largest power of x that divides the curve in the first slot, of those up to w
-pub record Power (w l : ℕ) (d : List ℕ) (v : ℕ) : Type 0 where
+pub record Common-power (w l : ℕ) (d : List ℕ) (v : ℕ) : Type 0 where
   pub small : v ≤ w
-  pub clear : (i : ℕ) → i < v → Clear w l i d
-  pub stop : v < w → ¬ Clear w l v d
+  pub clear : (i : ℕ) → i < v → Column-clear w l i d
+  pub stop : v < w → ¬ Column-clear w l v d
 
 -- n rows from b on hold those of the first slot over x^v
 pub record Moved (w n v b : ℕ) (d e : List ℕ) : Type 0 where
@@ -63,9 +63,9 @@ pub record Moved (w n v b : ℕ) (d e : List ℕ) : Type 0 where
   pub low : (k : ℕ) → k < b → getD e k 0 ≡ getD d k 0
 
 -- .. and x^v is its largest common power of x
-pub record Stripped (w l b : ℕ) (d e : List ℕ) : Type 0 where
+pub record Slot-stripped (w l b : ℕ) (d e : List ℕ) : Type 0 where
   pub v : ℕ
-  pub power : Power w l d v
+  pub power : Common-power w l d v
   pub moved : Moved w (l + 1) v b d e
 
 -- the curve in the slot from a on
@@ -77,7 +77,7 @@ curve w l a d = rows w (l + 1) (run a ((l + 1) * w) d)
 pub record Nexted (q g w l a : ℕ) (d e : List ℕ) : Type 0 where
   pub len : length e ≡ length d
   pub kept : (j : ℕ) → (l + 1) * w ≤ j → j < a + (l + 1) * w → getD e j 0 ≡ getD d j 0
-  pub low : Below q (a + (l + 1) * w) ((l + 1) * w) e
+  pub low : Slot-below q (a + (l + 1) * w) ((l + 1) * w) e
   pub found : (k : ℕ) → Within (ops q) k w (curve w l a d) → found (ops q) k (curve w l (a + (l + 1) * w) e) ≡ found (ops q) k (next (ops q) g (curve w l a d))
   pub tried : (k : ℕ) → Within (ops q) k w (curve w l a d) → tried (ops q) k (curve w l (a + (l + 1) * w) e) ≡ tried (ops q) k (next (ops q) g (curve w l a d))
   pub within : (k : ℕ) → Within (ops q) k w (curve w l a d) → Within (ops q) (k - 1) w (curve w l (a + (l + 1) * w) e)

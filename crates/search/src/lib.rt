@@ -2,7 +2,7 @@
 ghost use mathlib.Core.Path.{_≡_};
 ghost use Prim.Native.Nat.{_+_, _-_, _*_, _<_, _≤_};
 ghost use lib.ListN.{length, take};
-ghost use Rattle.search.specs.Search.{found-at, tried-at, listed, Written, Ready, Searched, Asked, Given, Roots, spare, none};
+ghost use Rattle.search.specs.Search.{found-at, tried-at, listed, Written, Search-ready, Searched, Asked, Curve-searched, Roots-left, spare, none};
 use field::runs::all_zero;
 use field::runs::copy;
 
@@ -36,7 +36,7 @@ fn put(k: usize, a: usize, begun: &[u16], roots: &mut [u16])
 
 // A beginning of k symbols: it is a root when its curve is zero at y = 0.
 fn settle(h: Sizes, a: usize, work: &[u16], begun: &[u16], roots: &mut [u16], t: Tally) -> Tally
-    requires { ⌜ Ready h 0 a (now work) (now begun) (now roots) t (found-at h 0 a (now work)) 1 ⌝ }
+    requires { ⌜ Search-ready h 0 a (now work) (now begun) (now roots) t (found-at h 0 a (now work)) 1 ⌝ }
     ensures { λ r. ⌜ (r .found ≡ t .found + length (found-at h 0 a (now (work .entry)))) × (r .tried ≡ t .tried + 1)
         × Written (listed (take (h .k) (now (begun .entry))) (found-at h 0 a (now (work .entry)))) (t .found * h .k) (now (roots .entry))
         (now (roots .exit)) ⌝ }
@@ -68,7 +68,7 @@ fn visit(
     roots: &mut [u16],
     t: Tally,
 ) -> Tally
-    requires { ⌜ Ready h left a (now work) (now begun) (now roots) t (found-at h left a (now work)) (tried-at h left a (now work)) ⌝ }
+    requires { ⌜ Search-ready h left a (now work) (now begun) (now roots) t (found-at h left a (now work)) (tried-at h left a (now work)) ⌝ }
     ensures { λ r. ⌜ Searched h left a (now (work .entry)) (now (begun .entry)) (now (roots .entry)) t (found-at h left a (now (work .entry)))
         (tried-at h left a (now (work .entry))) (now (work .exit)) (now (begun .exit)) (now (roots .exit)) r ⌝ }
 {
@@ -92,7 +92,7 @@ fn walk(
     roots: &mut [u16],
     t: Tally,
 ) -> Tally
-    requires { ⌜ (0 < left) × Ready h left a (now work) (now begun) (now roots) t (found-at h left a (now work)) (tried-at h left a (now work) - 1) ⌝ }
+    requires { ⌜ (0 < left) × Search-ready h left a (now work) (now begun) (now roots) t (found-at h left a (now work)) (tried-at h left a (now work) - 1) ⌝ }
     ensures { λ r. ⌜ Searched h left a (now (work .entry)) (now (begun .entry)) (now (roots .entry)) t (found-at h left a (now (work .entry)))
         (tried-at h left a (now (work .entry)) - 1) (now (work .exit)) (now (begun .exit)) (now (roots .exit)) r ⌝ }
 {
@@ -117,7 +117,7 @@ fn walk(
 // Every root of the curve in the spare slot, in order, behind those that the tally has counted before; the empty beginning has the curve stripped.
 fn run(q: u16, k: usize, w: usize, l: usize, work: &mut [u16], roots: &mut [u16], t: Tally) -> Tally
     requires { ⌜ Asked q k w l (spare w l (now work)) (now work) (now roots) t ⌝ }
-    ensures { λ r. ⌜ Given q k w l (spare w l (now (work .entry))) (now (work .entry)) (now (roots .entry)) t (now (work .exit)) (now (roots .exit)) r ⌝ }
+    ensures { λ r. ⌜ Curve-searched q k w l (spare w l (now (work .entry))) (now (work .entry)) (now (roots .entry)) t (now (work .exit)) (now (roots .exit)) r ⌝ }
 {
     let h = Sizes { q, k, w, l };
     let s = (l + 1) * w;
@@ -137,7 +137,7 @@ fn tally_into(
     roots: &mut [u16],
 )
     requires { ⌜ Asked q k w l (spare w l (now work)) (now work) (now roots) (now t) ⌝ }
-    ensures { λ _. ⌜ Given q k w l (spare w l (now (work .entry))) (now (work .entry)) (now (roots .entry)) (now (t .entry)) (now (work .exit))
+    ensures { λ _. ⌜ Curve-searched q k w l (spare w l (now (work .entry))) (now (work .entry)) (now (roots .entry)) (now (t .entry)) (now (work .exit))
         (now (roots .exit)) (now (t .exit)) ⌝ }
 {
     let r = run(q, k, w, l, work, roots, *t);
@@ -148,7 +148,7 @@ fn tally_into(
 // The same for a caller that has counted nothing: the tally is made here, and lent.
 fn count(q: u16, k: usize, w: usize, l: usize, work: &mut [u16], roots: &mut [u16]) -> Tally
     requires { ⌜ Asked q k w l (spare w l (now work)) (now work) (now roots) none ⌝ }
-    ensures { λ r. ⌜ Given q k w l (spare w l (now (work .entry))) (now (work .entry)) (now (roots .entry)) none (now (work .exit)) (now (roots .exit)) r ⌝ }
+    ensures { λ r. ⌜ Curve-searched q k w l (spare w l (now (work .entry))) (now (work .entry)) (now (roots .entry)) none (now (work .exit)) (now (roots .exit)) r ⌝ }
 {
     let mut t = Tally { found: 0, tried: 0 };
     tally_into(&mut t, q, k, w, l, work, roots);
@@ -166,7 +166,7 @@ pub fn search(
     roots: &mut [u16],
 ) -> Tally
     requires { ⌜ Asked q k w l (now curve) (now work) (now roots) none ⌝ }
-    ensures { λ r. ⌜ Roots q k w l (now (curve .entry)) (now (work .entry)) (now (roots .entry)) (now (work .exit)) (now (roots .exit)) r ⌝ }
+    ensures { λ r. ⌜ Roots-left q k w l (now (curve .entry)) (now (work .entry)) (now (roots .entry)) (now (work .exit)) (now (roots .exit)) r ⌝ }
 {
     let s = (l + 1) * w;
     copy(curve, &mut work[0..s]);

@@ -5,7 +5,7 @@ ghost use lib.Dec.{T};
 ghost use lib.ListN.{length};
 ghost use Rattle.rules.specs.Field.{ops, modulus};
 ghost use Rattle.rules.specs.Search.{rows, follows as may-follow};
-ghost use Rattle.search.specs.Slot.{run, Below, Carried, Turned, Substituted, Tells, Power, Moved, Stripped, Nexted};
+ghost use Rattle.search.specs.Slot.{run, Slot-below, Carried, Turned, Substituted, Tells, Common-power, Moved, Slot-stripped, Nexted};
 use field::symbols::mixed;
 use within::add_within;
 use within::copy_within;
@@ -40,7 +40,7 @@ fn turn(q: u16, g: u16, w: usize, l: usize, u: usize, work: &mut [u16])
 
 // Q(x, x·y + g), cut to w columns, for the curve Q in the first slot, by Horner from the last row on.
 fn substitute(q: u16, g: u16, w: usize, l: usize, work: &mut [u16])
-    requires { ⌜ T (modulus q) × (g < q) × ((l + 1) * w ≤ length (now work)) × Below q 0 ((l + 1) * w) (now work) ⌝ }
+    requires { ⌜ T (modulus q) × (g < q) × ((l + 1) * w ≤ length (now work)) × Slot-below q 0 ((l + 1) * w) (now work) ⌝ }
     ensures { λ _. ⌜ Substituted q g w l (now (work .entry)) (now (work .exit)) ⌝ }
 {
     let mut u = l;
@@ -68,7 +68,7 @@ fn is_clear(w: usize, l: usize, i: usize, work: &[u16]) -> bool
 // The largest power of x that divides the curve in the first slot, or w where it is zero.
 fn common_power(w: usize, l: usize, work: &[u16]) -> usize
     requires { ⌜ (l ≤ 24) × ((l + 1) * w ≤ length (now work)) ⌝ }
-    ensures { λ r. ⌜ Power w l (now (work .entry)) r ⌝ }
+    ensures { λ r. ⌜ Common-power w l (now (work .entry)) r ⌝ }
 {
     let mut v: usize = 0;
     while v < w {
@@ -96,7 +96,7 @@ fn divide(w: usize, l: usize, v: usize, b: usize, work: &mut [u16])
 // The curve of the first slot stripped, into the slot from b on.
 pub fn strip(w: usize, l: usize, b: usize, work: &mut [u16])
     requires { ⌜ (l ≤ 24) × ((l + 1) * w ≤ b) × (b + (l + 1) * w ≤ length (now work)) ⌝ }
-    ensures { λ _. ⌜ Stripped w l b (now (work .entry)) (now (work .exit)) ⌝ }
+    ensures { λ _. ⌜ Slot-stripped w l b (now (work .entry)) (now (work .exit)) ⌝ }
 {
     let v = common_power(w, l, work);
     divide(w, l, v, b, work);
@@ -119,7 +119,7 @@ pub fn follows(q: u16, g: u16, w: usize, l: usize, b: usize, work: &[u16]) -> bo
 // Q(x, x·y + g) stripped, for the curve Q in the slot at a, into the slot after it.
 pub fn next(q: u16, g: u16, w: usize, l: usize, a: usize, work: &mut [u16])
     requires { ⌜ T (modulus q) × (g < q) × (0 < w) × (l ≤ 24) × ((l + 1) * w ≤ a) × (a + (l + 1) * w + (l + 1) * w ≤ length (now work))
-        × Below q a ((l + 1) * w) (now work) ⌝ }
+        × Slot-below q a ((l + 1) * w) (now work) ⌝ }
     ensures { λ _. ⌜ Nexted q g w l a (now (work .entry)) (now (work .exit)) ⌝ }
 {
     let s = (l + 1) * w;

@@ -8,15 +8,15 @@ use native.Mathlib.Omega.{arith}
 use borrow.Author.Tests.{lt-ltb, le-ltb}
 use lib.ListN.{getD}
 use Rattle.buffers.specs.Change.{Changed}
-use Rattle.within.specs.Runs.{Apart, moved, cut}
+use Rattle.within.specs.Runs.{Runs-apart, moved, cut}
 
 module _ {f : ℕ → ℕ} {d e : List ℕ} (a b n i : ℕ) (h : Changed f b i d e) where
   -- a run that is apart is not written
-  pub read-apart : Apart a b n → (j : ℕ) → i ≤ n → j < n → getD e (a + j) 0 ≡ getD d (a + j) 0
+  pub read-apart : Runs-apart a b n → (j : ℕ) → i ≤ n → j < n → getD e (a + j) 0 ≡ getD d (a + j) 0
   read-apart p j l m = ⊎-elim (λ u. h .low (a + j) (omega arith)) (λ u. h .high (a + j) (omega arith)) p
 
   -- nor is the run's own next number
-  pub read-ahead : (a ≡ b) ⊎ Apart a b n → i < n → getD e (a + i) 0 ≡ getD d (a + i) 0
+  pub read-ahead : (a ≡ b) ⊎ Runs-apart a b n → i < n → getD e (a + i) 0 ≡ getD d (a + i) 0
   read-ahead p l = ⊎-elim (λ u. h .high (a + i) (omega arith)) (λ u. read-apart u i (omega arith) l) p
 
 pub moved-none : (d : List ℕ) (b : ℕ) → 0 ≡ moved d b 0

@@ -8,8 +8,8 @@ use lib.ListN.{getD}
 use Rattle.rules.specs.Field.{plus, times}
 
 -- the runs of n numbers from a on and from b on have no place in common
-abbrev pub Apart : ℕ → ℕ → ℕ → Type 0
-Apart a b n = (a + n ≤ b) ⊎ (b + n ≤ a)
+abbrev pub Runs-apart : ℕ → ℕ → ℕ → Type 0
+Runs-apart a b n = (a + n ≤ b) ⊎ (b + n ≤ a)
 
 -- itself plus c times the run from a on
 abbrev pub added : ℕ → ℕ → List ℕ → ℕ → ℕ → ℕ → ℕ

@@ -6,12 +6,12 @@ ghost use lib.Dec.{T};
 ghost use lib.ListN.{length, getD};
 ghost use Rattle.rules.specs.Field.{modulus};
 ghost use Rattle.buffers.specs.Change.{Changed};
-ghost use Rattle.within.specs.Runs.{Apart, added, shifted, moved, cut};
+ghost use Rattle.within.specs.Runs.{Runs-apart, added, shifted, moved, cut};
 use field::symbols::mixed;
 
 // The run of n from b on becomes itself plus c times the run from a on.
 pub fn add_within(q: u16, c: u16, work: &mut [u16], a: usize, b: usize, n: usize)
-    requires { ⌜ T (modulus q) × Apart a b n × (a + n ≤ length (now work)) × (b + n ≤ length (now work)) ⌝ }
+    requires { ⌜ T (modulus q) × Runs-apart a b n × (a + n ≤ length (now work)) × (b + n ≤ length (now work)) ⌝ }
     ensures { λ _. ⌜ Changed (added q c (now (work .entry)) a b) b n (now (work .entry)) (now (work .exit)) ⌝ }
 {
     let mut i: usize = 0;
@@ -25,7 +25,7 @@ pub fn add_within(q: u16, c: u16, work: &mut [u16], a: usize, b: usize, n: usize
 
 // The run of n from b on becomes x times itself plus c times the run from a on, cut to n places. With a = b it is multiplied by x + c.
 pub fn shift_add(q: u16, c: u16, work: &mut [u16], a: usize, b: usize, n: usize)
-    requires { ⌜ T (modulus q) × ((a ≡ b) ⊎ Apart a b n) × (a + n ≤ length (now work)) × (b + n ≤ length (now work)) ⌝ }
+    requires { ⌜ T (modulus q) × ((a ≡ b) ⊎ Runs-apart a b n) × (a + n ≤ length (now work)) × (b + n ≤ length (now work)) ⌝ }
     ensures { λ _. ⌜ Changed (shifted q c (now (work .entry)) a b) b n (now (work .entry)) (now (work .exit)) ⌝ }
 {
     let mut last: u16 = 0;
@@ -56,7 +56,7 @@ pub fn shift(work: &mut [u16], b: usize, n: usize)
 
 // The run of n from b on becomes the run from a on.
 pub fn copy_within(work: &mut [u16], a: usize, b: usize, n: usize)
-    requires { ⌜ Apart a b n × (a + n ≤ length (now work)) × (b + n ≤ length (now work)) ⌝ }
+    requires { ⌜ Runs-apart a b n × (a + n ≤ length (now work)) × (b + n ≤ length (now work)) ⌝ }
     ensures { λ _. ⌜ Changed (λ i. getD (now (work .entry)) (a + i) 0) b n (now (work .entry)) (now (work .exit)) ⌝ }
 {
     let mut i: usize = 0;
@@ -69,7 +69,7 @@ pub fn copy_within(work: &mut [u16], a: usize, b: usize, n: usize)
 
 // The run of n from b on becomes the run from a on, from its place v on, with zeros behind.
 pub fn strip_run(work: &mut [u16], a: usize, b: usize, v: usize, n: usize)
-    requires { ⌜ Apart a b n × (v ≤ n) × (a + n ≤ length (now work)) × (b + n ≤ length (now work)) ⌝ }
+    requires { ⌜ Runs-apart a b n × (v ≤ n) × (a + n ≤ length (now work)) × (b + n ≤ length (now work)) ⌝ }
     ensures { λ _. ⌜ Changed (cut (now (work .entry)) a v n) b n (now (work .entry)) (now (work .exit)) ⌝ }
 {
     let mut i: usize = 0;

@@ -7,7 +7,7 @@ use Rattle.rules.specs.Patch.{nothing}
 use Rattle.records.specs.Holding.{holding, possible, Sound}
 use Rattle.records.proofs.Holding.{turns-are, sound}
 use Rattle.records.specs.declared.Held.{Held}
-use Rattle.patch.specs.Run.{Run}
+use Rattle.patch.specs.Completed.{Completed}
 use Rattle.patch.proofs.Runs.{last, before, not-full, turned-sound, turned-turns}
 use native.Mathlib.Omega.{arith}
 use borrow.Author.Needs.{needs}
@@ -15,7 +15,7 @@ use Rattle.patch.proofs.read_all.Statement.{statement}
 use Rattle.patch.proofs.read_all.Tie as tie
 
 abbrev Inv-loop : tie.InvT-loop
-Inv-loop held₀ held = Sound held × (held .turns < 2 ^ 64) × (Run held → Run (holding 0 nothing))
+Inv-loop held₀ held = Sound held × (held .turns < 2 ^ 64) × (Completed held → Completed (holding 0 nothing))
 
 abbrev μ-loop : tie.MeasureT-loop
 μ-loop held₀ held = 2 ^ 64 - held .turns
@@ -28,7 +28,7 @@ unfolding possible
 loop-holds c =
     let is = c .start .ensures in
     let none : c .start .result .turns ≡ 0 = ap (λ (h : Held). h .turns) is ∙ turns-are 0 nothing in
-    (sound 0 nothing is tt, omega arith, subst Run is)
+    (sound 0 nothing is tt, omega arith, subst Completed is)
 
 is-full-requires : tie.Need-is-full-requires Inv-loop μ-loop
 is-full-requires c κs = search needs

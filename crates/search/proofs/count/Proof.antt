@@ -45,7 +45,7 @@ use denote.Triple.Walked.{says, needs, Stays, stay-none, gave-slice, walkOf, goe
 use denote.Exit.{yes}
 use denote.Signature.{plain}
 use Rattle.search.specs.declared.Tally.{Tally}
-use Rattle.search.specs.Search.{Asked, Given as Done, spare, none}
+use Rattle.search.specs.Search.{Asked, Curve-searched as Done, spare, none}
 use Rattle.search.proofs.Tally as T
 use Rattle.search.proofs.Tally.Laws as T′
 use Rattle.search.proofs.tally_into as tally-into

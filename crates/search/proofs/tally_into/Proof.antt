@@ -43,7 +43,7 @@ use denote.Triple.Walked.{says, needs, Stays, stay-ref, stay-none, gave-slice, w
 use denote.Exit.{yes}
 use denote.Signature.{plain}
 use Rattle.search.specs.declared.Tally.{Tally}
-use Rattle.search.specs.Search.{Asked, Given as Done, spare}
+use Rattle.search.specs.Search.{Asked, Curve-searched as Done, spare}
 use Rattle.search.proofs.Tally as T
 use Rattle.search.proofs.Tally.Laws as T′
 use Rattle.search.proofs.run as run-fn

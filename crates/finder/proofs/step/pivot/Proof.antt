@@ -5,14 +5,14 @@ use Prim.Native.Nat.{_+_, _-_, _*_, _≤_}
 use lib.ListN.{getD}
 use Rattle.buffers.proofs.Rows.{row-end}
 use Rattle.curve.proofs.Pairing.{row-inside}
-use Rattle.finder.proofs.Scan.{Scan, scan-none, scan-skip, scan-take, scan-picked}
+use Rattle.finder.proofs.Scan.{Least-scan, scan-none, scan-skip, scan-take, scan-picked}
 use native.Mathlib.Omega.{arith}
 use borrow.Author.Needs.{needs}
 use Rattle.finder.proofs.step.pivot.Statement.{statement}
 use Rattle.finder.proofs.step.pivot.Tie as tie
 
 abbrev Inv-loop : tie.InvT-loop
-Inv-loop q k w l leads values best₀ least₀ j₀ off₀ best least j off = (j ≤ l + 1) × (off ≡ j * (k - 1)) × Scan k w l leads values j best least
+Inv-loop q k w l leads values best₀ least₀ j₀ off₀ best least j off = (j ≤ l + 1) × (off ≡ j * (k - 1)) × Least-scan k w l leads values j best least
 
 abbrev μ-loop : tie.MeasureT-loop
 μ-loop q k w l leads values best₀ least₀ j₀ off₀ best least j off = l + 1 - j

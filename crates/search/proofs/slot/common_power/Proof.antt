@@ -2,14 +2,14 @@
 use borrow.Author.Tests.{not-true, not-false}
 use Prim.Native.Nat.{ℕ, _-_, _<_, _≤_}
 use borrow.Author.Count.{below-more}
-use Rattle.search.specs.Slot.{Clear}
+use Rattle.search.specs.Slot.{Column-clear}
 use native.Mathlib.Omega.{arith}
 use borrow.Author.Needs.{needs}
 use Rattle.search.proofs.slot.common_power.Statement.{statement}
 use Rattle.search.proofs.slot.common_power.Tie as tie
 
 abbrev Inv-loop : tie.InvT-loop
-Inv-loop w l work v₀ v = (v ≤ w) × ((i : ℕ) → i < v → Clear w l i work)
+Inv-loop w l work v₀ v = (v ≤ w) × ((i : ℕ) → i < v → Column-clear w l i work)
 
 abbrev μ-loop : tie.MeasureT-loop
 μ-loop w l work v₀ v = w - v

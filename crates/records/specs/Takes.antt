@@ -21,10 +21,10 @@ Either true goes-on stops = goes-on
 Either false goes-on stops = stops
 
 -- these calls take the input: each is given the next record and what the call before it left held, and the first that stops is the last
-abbrev pub Taken : Held → List ℕ → List Call → Type 0
-Taken held input [] = ⊥
-Taken held input (c ∷ calls) = Stepped held (take (size input) input) (c .before) (c .after) (c .done)
-    × Either (c .done .more) (Taken (c .done .held) (drop (size input) input) calls) (calls ≡ [])
+abbrev pub Takes : Held → List ℕ → List Call → Type 0
+Takes held input [] = ⊥
+Takes held input (c ∷ calls) = Stepped held (take (size input) input) (c .before) (c .after) (c .done)
+    × Either (c .done .more) (Takes (c .done .held) (drop (size input) input) calls) (calls ≡ [])
 
 -- the bytes that they write
 unfoldable pub written : List Call → List ℕ

@@ -6,11 +6,11 @@ use lib.ListN.{length}
 use Rattle.rules.specs.Patch.{size}
 use Rattle.records.specs.declared.Held.{Held}
 use Rattle.records.specs.Did.{Stepped}
-use Rattle.records.specs.Taken.{Call, Taken}
+use Rattle.records.specs.Takes.{Call, Takes}
 use Rattle.patch.specs.declared.Left.{Left}
 
 -- a turn: so many bytes of the record as were read, and the call of step that took them
-pub record Turned (held : Held) (l : Left) : Type 0 where
+pub record Took (held : Held) (l : Left) : Type 0 where
   pub bytes : List ℕ
   pub call : Call
   pub cut : length bytes ≤ size bytes
@@ -19,7 +19,7 @@ pub record Turned (held : Held) (l : Left) : Type 0 where
   pub is-more : l .more ≡ call .done .more
 
 -- all turns from what is held on: the bytes that were read, and the calls of step that took them
-pub record Run (held : Held) : Type 0 where
+pub record Completed (held : Held) : Type 0 where
   pub input : List ℕ
   pub calls : List Call
-  pub taken : Taken held input calls
+  pub taken : Takes held input calls
