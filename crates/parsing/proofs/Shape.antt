@@ -1,13 +1,14 @@
 -- The tests of a record's shape, case by case: a length that fits, how many bytes a record has, refusal 10.
 use mathlib.Core.Path.{_≡_, refl, sym, ap, _∙_}
 use mathlib.Core.Bool.{Bool, true, false, not, _&&_, _||_}
-use mathlib.Core.List.{List, [], _∷_}
+use mathlib.Core.List.{List, [], _∷_, _++_}
 use Prim.Native.Nat.{ℕ, _+_, _%_, _<_, _≤_}
 use native.Mathlib.Omega.{arith}
 use lib.Dec.{eqb, leb, ltb}
 use lib.ListN.{length, getD}
 use borrow.Author.Tests.{lt-ltb, le-ltb, le-leb, lt-leb, eq-eqb, ne-eqb, leb-true, eqb-true, ltb-false, not-false}
 use Rattle.rules.specs.Patch.{pairs, length-fits, length-of, size, kind, broken}
+use Rattle.rules.proofs.Tests.{either}
 
 and-true : (a b : Bool) → a && b ≡ true → (a ≡ true) × (b ≡ true)
 and-true true b e = (refl, e)
@@ -75,6 +76,17 @@ module _ (b : List ℕ) (n : ℕ) (is : n ≡ length-of b) where
       pub not-broken : ¬ (j ≡ 1) → false ≡ broken b
       unfolding broken kind
       not-broken k = simp (fitting, le-ltb (length b) (2 + length-of b) (omega arith), ne-eqb (getD (pairs b) 1 0) 1 (λ q. k (e ∙ q)))
+
+-- the first two bytes decide
+pub size-front : (b rest : List ℕ) → 2 ≤ length b → size (b ++ rest) ≡ size b
+unfolding size length-of pairs
+size-front [] rest l = absurd (omega arith)
+size-front (x ∷ []) rest l = absurd (omega arith)
+size-front (x ∷ y ∷ b) rest l = refl
+
+pub most-size : (b : List ℕ) → size b ≤ 2 + length-of b
+unfolding size
+most-size b = either (λ n. n ≤ 2 + length-of b) (2 + length-of b) 2 (length-fits (length-of b)) (λ _. omega arith) (λ _. omega arith)
 
 -- what a record has that is not refused with 10
 module _ (b : List ℕ) (w : broken b ≡ false) where

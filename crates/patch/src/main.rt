@@ -5,7 +5,7 @@ ghost use Prim.Native.Nat.{_+_, _^_, _<_, _≤_};
 ghost use lib.ListN.{length, take};
 ghost use Rattle.rules.specs.Patch.{nothing, size};
 ghost use Rattle.records.specs.Holding.{holding, Sound};
-ghost use Rattle.patch.specs.Completed.{Took, Completed};
+ghost use Rattle.patch.specs.Completed.{Took, Went, Completed};
 
 // What a turn left: what is held then, whether the program goes on, and whether a read or a write failed.
 struct Left {
@@ -34,7 +34,7 @@ fn read_record(all: &mut [u8]) -> streams::Got
 // A record of which the input has these bytes: taken, its lines written.
 fn take(held: records::Held, bytes: &[u8]) -> Left
     requires { ⌜ Sound held × (held .turns + 1 < 2 ^ 64) × (length (now bytes) ≤ 132) × (length (now bytes) ≤ size (now bytes)) ⌝ }
-    ensures { λ r. ⌜ Took held r ⌝ }
+    ensures { λ r. ⌜ Took held (now (bytes .entry)) r ⌝ }
 {
     let mut out = [0u8; 16384];
     let done = records::step(held, bytes, &mut out);
@@ -51,7 +51,7 @@ fn take(held: records::Held, bytes: &[u8]) -> Left
 // One turn. A read that fails is no end of the input, so nothing is said of what came before it of the record.
 fn turn(held: records::Held) -> Left
     requires { ⌜ Sound held × (held .turns + 1 < 2 ^ 64) ⌝ }
-    ensures { λ r. ⌜ (r .failed ≡ false → Took held r) ⌝ }
+    ensures { λ r. ⌜ (r .failed ≡ false → Went held r) ⌝ }
 {
     let mut bytes = [0u8; 132];
     let got = read_record(&mut bytes);
@@ -66,23 +66,27 @@ fn turn(held: records::Held) -> Left
     take(held, &bytes[..n])
 }
 
-// Takes turn after turn until one stops: the end of the input, refusal 10, or a call that fails.
-// The answer is whether a call failed, or no number was left, which cannot come about.
-fn read_all() -> bool
-    ensures { λ r. ⌜ (r ≡ false → Completed (holding 0 nothing)) ⌝ }
+// Takes turn after turn until one stops, and answers what it left: the end of the input, refusal 10, or a call that fails.
+// Where no number is left for a further record, which cannot come about, it stops as where a call fails.
+fn read_all() -> Left
+    ensures { λ r. ⌜ (r .failed ≡ false → Completed (holding 0 nothing) r) ⌝ }
 {
     let mut held = records::start();
     while !records::is_full(held) {
         let left = turn(held);
         if left.failed {
-            return true;
+            return left;
         }
         if !left.more {
-            return false;
+            return left;
         }
         held = left.held;
     }
-    true
+    Left {
+        held,
+        more: false,
+        failed: true,
+    }
 }
 
 fn main() {

@@ -25,13 +25,13 @@ text-of {t} {d} {e} {w} h l =
     let long : length t ≡ w = omega (arith, h .next) in
     ap (take w) (h .out ∙ sets-eq t d 0 fits) ∙ take-at t _ w long
 
--- what is held after a call, and how many turns were taken
-module _ {held : Held} {bytes d e : List ℕ} {r : Done} (s : Sound held) (g : Stepped held bytes d e r) where
-  held-next : held-of (r .held) ≡ turn (held .turns + 1) (held-of held) bytes .held
-  held-next = ap held-of (g .did .held) ∙ kept (held .turns + 1) _ (turn-possible (held .turns + 1) (held-of held) bytes (s .accepted))
-
-  turns-next : r .held .turns ≡ held .turns + 1
+-- how many turns were taken after a call, and what is held then
+module _ {held : Held} {bytes d e : List ℕ} {r : Done} (g : Stepped held bytes d e r) where
+  pub turns-next : r .held .turns ≡ held .turns + 1
   turns-next = ap (λ (h : Held). h .turns) (g .did .held) ∙ turns-are (held .turns + 1) _
+
+  held-next : Sound held → held-of (r .held) ≡ turn (held .turns + 1) (held-of held) bytes .held
+  held-next s = ap held-of (g .did .held) ∙ kept (held .turns + 1) _ (turn-possible (held .turns + 1) (held-of held) bytes (s .accepted))
 
 taken-from : (f : ℕ) (held : Held) (input : List ℕ) (calls : List Call) → Sound held → length input < f → Takes held input calls →
     written calls ≡ printed-from f (held .turns + 1) (held-of held) input
@@ -60,8 +60,8 @@ taken-from (suc f) held input (c ∷ calls) s l t = ap₂ _++_ (text-of (did .te
         let go : here .more ≡ true = sym (did .more) ∙ e in
         let whole = whole-long (take (size input) input) (goes-on i (held-of held) _ go) in
         let less : length rest < f = omega (arith, whole, length-take (size input) input, two-size input, length-drop (size input) input) in
-        let next : c .done .held .turns + 1 ≡ suc i = omega (arith, turns-next s (t .0)) in
-        others less u ∙ rw (go, next, held-next s (t .0)) refl
+        let next : c .done .held .turns + 1 ≡ suc i = omega (arith, turns-next (t .0)) in
+        others less u ∙ rw (go, next, held-next (t .0) s) refl
     behind others false e u = let stop : here .more ≡ false = sym (did .more) ∙ e in rw (stop, u) refl
 
 pub taken-printed : (held : Held) (input : List ℕ) (calls : List Call) → held ≡ holding 0 nothing → Takes held input calls → written calls ≡ printed input

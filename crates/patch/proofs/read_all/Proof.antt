@@ -1,5 +1,5 @@
 -- read_all: every turn but the last goes on, and each adds one to the turns taken.
-use mathlib.Core.Path.{_≡_, ap, subst, _∙_}
+use mathlib.Core.Path.{_≡_, sym, ap, subst, _∙_}
 use Prim.Native.Nat.{_-_, _^_, _<_}
 use lib.Dec.{T}
 use borrow.Author.Tests.{not-true, not-false}
@@ -7,15 +7,16 @@ use Rattle.rules.specs.Patch.{nothing}
 use Rattle.records.specs.Holding.{holding, possible, Sound}
 use Rattle.records.proofs.Holding.{turns-are, sound}
 use Rattle.records.specs.declared.Held.{Held}
+use Rattle.patch.specs.declared.Left.{Left}
 use Rattle.patch.specs.Completed.{Completed}
-use Rattle.patch.proofs.Runs.{last, before, not-full, turned-sound, turned-turns}
+use Rattle.patch.proofs.Runs.{last, before, not-full, went-sound, went-turns}
 use native.Mathlib.Omega.{arith}
 use borrow.Author.Needs.{needs}
 use Rattle.patch.proofs.read_all.Statement.{statement}
 use Rattle.patch.proofs.read_all.Tie as tie
 
 abbrev Inv-loop : tie.InvT-loop
-Inv-loop held₀ held = Sound held × (held .turns < 2 ^ 64) × (Completed held → Completed (holding 0 nothing))
+Inv-loop held₀ held = Sound held × (held .turns < 2 ^ 64) × ((l : Left) → Completed held l → Completed (holding 0 nothing) l)
 
 abbrev μ-loop : tie.MeasureT-loop
 μ-loop held₀ held = 2 ^ 64 - held .turns
@@ -28,7 +29,7 @@ unfolding possible
 loop-holds c =
     let is = c .start .ensures in
     let none : c .start .result .turns ≡ 0 = ap (λ (h : Held). h .turns) is ∙ turns-are 0 nothing in
-    (sound 0 nothing is tt, omega arith, subst Completed is)
+    (sound 0 nothing is tt, omega arith, λ l. subst (λ h. Completed h l) is)
 
 is-full-requires : tie.Need-is-full-requires Inv-loop μ-loop
 is-full-requires c κs = search needs
@@ -40,31 +41,31 @@ turn-requires c κs =
     (inv .0, not-full (at-full .is-full .ensures) (c .if1 .taken) (inv .1))
 
 returns : tie.Need-returns Inv-loop μ-loop
-returns c = λ e. absurd (subst T e tt)
+returns c = λ e. absurd (subst T (sym (c .if2 .taken) ∙ e) tt)
 
 returns-2 : tie.Need-returns-2 Inv-loop μ-loop
 returns-2 c = λ e.
     let at-if2 = c .before .before in
     let at-turn = at-if2 .before in
     let inv = at-turn .before .before .before .loop .inv in
-    inv .2 (last (at-turn .turn .ensures (at-if2 .if2 .left)) (not-true _ (c .if3 .taken)))
+    inv .2 _ (last (at-turn .turn .ensures (at-if2 .if2 .left)) (not-true _ (c .if3 .taken)))
 
 loop-less : tie.Need-loop-less Inv-loop μ-loop
 loop-less c =
     let at-turn = c .before .before .before .before in
     let at-loop = at-turn .before .before .before in
-    let turned = at-turn .turn .ensures (c .before .before .before .if2 .left) in
-    omega (arith, turned-turns turned, at-loop .loop .inv .1)
+    let went = at-turn .turn .ensures (c .before .before .before .if2 .left) in
+    omega (arith, went-turns went, at-loop .loop .inv .1)
 
 loop-again : tie.Need-loop-again Inv-loop μ-loop
 loop-again c =
     let at-turn = c .before .before .before .before in
     let at-full = at-turn .before .before in
     let inv = at-full .before .loop .inv in
-    let turned = at-turn .turn .ensures (c .before .before .before .if2 .left) in (
-      turned-sound turned,
-      omega (arith, turned-turns turned, not-full (at-full .is-full .ensures) (at-turn .before .if1 .taken) (inv .1)),
-      λ run. inv .2 (before turned (not-false _ (c .before .if3 .left)) run),
+    let went = at-turn .turn .ensures (c .before .before .before .if2 .left) in (
+      went-sound went,
+      omega (arith, went-turns went, not-full (at-full .is-full .ensures) (at-turn .before .if1 .taken) (inv .1)),
+      λ l done. inv .2 l (before went (not-false _ (c .before .if3 .left)) done),
     )
 
 returns-3 : tie.Need-returns-3 Inv-loop μ-loop

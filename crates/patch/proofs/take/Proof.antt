@@ -30,7 +30,6 @@ returns c =
     let at-step = c .before .before .before .before .before in
     let start = at-step .before .before .before in
     record {
-      bytes = start .args .bytes .now;
       call = record { before = _; after = _; done = at-step .step .result };
       cut = start .pre .3;
       stepped = at-step .step .ensures;

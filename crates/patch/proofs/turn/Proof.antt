@@ -32,7 +32,7 @@ take-requires c κs =
     (start .pre .0, start .pre .1, omega (arith, long), omega (arith, long, read .ensures .1))
 
 returns-2 : tie.Need-returns-2
-returns-2 c = λ e. c .take .ensures
+returns-2 c = λ e. record { bytes = _; took = c .take .ensures }
 
 pub turn-spec : {M : Type 1} → statement M
 turn-spec =
