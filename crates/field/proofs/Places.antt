@@ -34,6 +34,12 @@ module _ (q : ℕ) where
   under-of [] h = tt
   under-of (c ∷ run) h = and (ltb c q) _ (lt→ltb c q (h 0 (omega arith))) (under-of run (λ i l. h (suc i) (omega arith)))
 
+  pub under-at : (run : List ℕ) → T (under q run) → (i : ℕ) → i < length run → getD run i 0 < q
+  unfolding under all
+  under-at [] t i l = absurd (omega arith)
+  under-at (c ∷ run) t zero l = ltb→lt c q (both (ltb c q) (under q run) t .0)
+  under-at (c ∷ run) t (suc i) l = under-at run (both (ltb c q) (under q run) t .1) i (omega arith)
+
   -- numbers below q stand for zero only where they are 0
   pub zeros-blank : (run : List ℕ) → T (under q run) → zeros (ops q) run ≡ blank run
   unfolding zeros blank under all

@@ -1,28 +1,19 @@
 -- Of finding and reading only the curve, and so its beginnings, is free: any two allowed outcomes are equal in all else.
 use mathlib.Core.Path.{_≡_, refl, sym, ap, subst, subst₂, _∙_}
-use mathlib.Core.Bool.{_&&_}
 use mathlib.Core.List.{List, flatten}
 use Prim.Native.Nat.{ℕ, _+_}
 use native.Mathlib.Decide.{ℕ-discrete}
-use lib.Dec.{T, eqb→eq}
+use lib.Dec.{T}
 use lib.ListN.{length, drop, length-append}
 use lib.Seq.{drop-at}
 use Rattle.rules.specs.Setting.{Setting, curve-length}
-use Rattle.rules.specs.Refusal.{long, under, fits}
 use Rattle.rules.specs.Outcome.{Finding, Finds, Reading, Reads, over, usable}
-use Rattle.rules.proofs.Tests.{both}
 use Rattle.reader.specs.Alike.{Same-behind, Alike-found, Alike-read}
 use Rattle.reader.proofs.Decided.{find-number, find-decided, read-number, read-decided}
-use Rattle.reader.proofs.Readings.{fit-readings, read-fit}
+use Rattle.reader.proofs.Readings.{passing-readings, usable-parts, read-passing}
 
 -- Curves that may be used, written over one buffer: it keeps what it held behind them, and its length follows from that.
 module _ (S : Setting) (points word curve : List ℕ) where
-  usable-long : (Q : List ℕ) → T (usable S points word Q) → length Q ≡ curve-length S
-  unfolding usable long
-  usable-long Q u =
-      let symbols = both (long (curve-length S) Q && under (S .p) Q) (fits S points word Q) u .0 in
-      eqb→eq _ _ (both (long (curve-length S) Q) (under (S .p) Q) symbols .0)
-
   behind-is : (Q : List ℕ) → length Q ≡ curve-length S → drop (curve-length S) (over Q curve) ≡ drop (curve-length S) curve
   unfolding over
   behind-is Q e = drop-at Q (drop (length Q) curve) _ e ∙ ap (λ (n : ℕ). drop n curve) e
@@ -33,8 +24,8 @@ module _ (S : Setting) (points word curve : List ℕ) where
 
   same-behind : (Q Q′ : List ℕ) → T (usable S points word Q) → T (usable S points word Q′) → Same-behind S (over Q curve) (over Q′ curve)
   same-behind Q Q′ u u′ =
-      let e = usable-long Q u in
-      let e′ = usable-long Q′ u′ in
+      let e = usable-parts S points word Q u .0 in
+      let e′ = usable-parts S points word Q′ u′ .0 in
       record { long = long-is Q e ∙ sym (long-is Q′ e′); numbers = behind-is Q e ∙ sym (behind-is Q′ e′) }
 
 module _ (S : Setting) (points word curve work : List ℕ) (o o′ : Finding) where
@@ -76,8 +67,8 @@ module _ (S : Setting) (points word output curve work : List ℕ) (o o′ : Read
           let d′ = read-decided S points word output curve work h′ in
           let u = h .passes (d .is-number ∙ z) in
           let u′ = h′ .passes (d′ .is-number ∙ z) in
-          let list = fit-readings S points word _ (read-fit S points word output curve work z _ u) in
-          let list′ = fit-readings S points word _ (read-fit S points word output curve work z _ u′) in
+          let list = passing-readings S points word _ (read-passing S points word output curve work z _ u) in
+          let list′ = passing-readings S points word _ (read-passing S points word output curve work z _ u′) in
           subst₂ (Alike-read S) (sym (d .accepted z)) (sym (d′ .accepted z)) (record {
             refusal = refl;
             found = ap length (list ∙ sym list′);

@@ -14,7 +14,7 @@ use Rattle.reader.specs.declared.terms.Terms.{Terms}
 use Rattle.reader.specs.Terms.{Settled, Posed}
 use Rattle.reader.specs.Calls.{checked}
 use Rattle.reader.proofs.First.{setting-refuses, others-decide}
-use Rattle.reader.proofs.Given.{Given, given}
+use Rattle.rules.proofs.Given.{Given, given}
 use Rattle.reader.proofs.Settled.{fits-is}
 
 -- the number is told, and where it is 0 the slices are as they should be

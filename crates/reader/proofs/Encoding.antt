@@ -14,8 +14,8 @@ use Rattle.rules.specs.Code.{encode}
 use Rattle.rules.specs.Refusal.{_if_, _of_, lowest, point-causes, encode-refusal}
 use Rattle.rules.specs.Outcome.{encode-call}
 use Rattle.reader.specs.Calls.{encoded}
-use Rattle.reader.proofs.Lowest.{none-first, none-parts}
-use Rattle.reader.proofs.Given.{Given, given, point-named}
+use Rattle.rules.proofs.Lowest.{none-first, none-parts}
+use Rattle.rules.proofs.Given.{Given, given, point-named}
 use Rattle.reader.proofs.Front.{over-front}
 use Rattle.reader.proofs.Patch.{length-patch}
 

@@ -6,7 +6,7 @@ use Rattle.rules.specs.Setting.{Setting}
 use Rattle.rules.specs.Refusal.{Cause, lowest, setting-causes, setting-refusal}
 use Rattle.reader.specs.declared.terms.Terms.{Terms}
 use Rattle.reader.specs.Terms.{Posed}
-use Rattle.reader.proofs.Lowest.{named, first-refuses, first-accept}
+use Rattle.rules.proofs.Lowest.{named, first-refuses, first-accept}
 
 pub setting-named : (S : Setting) → T (named (setting-causes S))
 unfolding setting-causes named

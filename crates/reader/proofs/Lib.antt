@@ -2,8 +2,6 @@
 mod Answers
 mod Patch
 mod Front
-pub mod Lowest
-pub mod Given
 mod Rooms
 mod Times
 mod Scoring

@@ -21,8 +21,8 @@ use Rattle.reader.specs.Calls.{listing, nothing}
 use Rattle.reader.specs.Word.{Listable, Listed}
 use Rattle.reader.proofs.Answers.{holds, fails}
 use Rattle.reader.proofs.First.{setting-refuses, others-decide}
-use Rattle.reader.proofs.Lowest.{named, lowest-none, here, later, first-refuses, first-accept}
-use Rattle.reader.proofs.Given.{Given, given, point-named}
+use Rattle.rules.proofs.Lowest.{named, lowest-none, here, later, first-refuses, first-accept}
+use Rattle.rules.proofs.Given.{Given, given, point-named}
 use Rattle.reader.proofs.Rooms.{two-rooms, not-eight}
 use Rattle.reader.proofs.Front.{length-front, cleared-front}
 use Rattle.reader.proofs.Settled as settled

@@ -16,7 +16,7 @@ use Rattle.reader.specs.Terms.{Settled, Posed}
 use Rattle.reader.specs.Calls.{reading, nothing}
 use Rattle.reader.specs.Word.{Readable, Curve-left, Listed}
 use Rattle.reader.proofs.First.{setting-refuses, others-decide}
-use Rattle.reader.proofs.Given.{Given, given, point-named}
+use Rattle.rules.proofs.Given.{Given, given, point-named}
 use Rattle.reader.proofs.Rooms.{three-rooms, not-eight}
 use Rattle.reader.proofs.Front.{length-front, over-front, used-over, cleared-front}
 use Rattle.reader.proofs.Settled as settled

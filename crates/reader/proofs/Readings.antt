@@ -22,9 +22,9 @@ use Rattle.setting.specs.Accepted.{Accepted}
 use Rattle.setting.proofs.Accepted.{accepted}
 use Rattle.reader.specs.Demanded.{Demanded}
 use Rattle.reader.proofs.Answers.{passing-parts}
-use Rattle.reader.proofs.Lowest.{none-first, none-parts}
-use Rattle.reader.proofs.Given.{Given, given, point-named, first-long, first-under, others-given}
-use Rattle.reader.proofs.Scoring.{under-at}
+use Rattle.rules.proofs.Lowest.{none-first, none-parts}
+use Rattle.rules.proofs.Given.{Given, given, point-named, first-long, first-under, others-given}
+use Rattle.field.proofs.Places.{under-at}
 use Rattle.reader.proofs.First.{setting-named}
 use Rattle.reader.proofs.Decided.{list-decided, read-number, read-decided}
 
@@ -38,8 +38,8 @@ module _ (S : Setting) (points word Q : List ℕ) where
     pub passing : T (fits S points word Q)
 
   module _ (f : Passing-curve) where
-    pub fit-readings : list-of S points word Q ≡ readings (ops (S .p)) (S .k) (S .n - S .τ) points word
-    fit-readings =
+    pub passing-readings : list-of S points word Q ≡ readings (ops (S .p)) (S .k) (S .n - S .τ) points word
+    passing-readings =
         let a = f .setting .passed in
         list-readings S points word Q (a .prime) (omega (arith, a .ranged .code .k-least)) (a .ranged .s-least)
         (unfold under in f .given .points-under) (f .given .apart) (f .passing)
@@ -51,30 +51,30 @@ module _ (S : Setting) (points word Q : List ℕ) where
     wide : 0 < W S
     wide = omega (arith, f .setting .W-least, f .setting .passed .ranged .code .k-least)
 
-    fit-each : (L : ℕ) → alive (ops (S .p)) (suc L) (stripped (ops (S .p)) (rows (W S) (ℓ S + 1) Q)) ≤ ℓ S
+    passing-each : (L : ℕ) → alive (ops (S .p)) (suc L) (stripped (ops (S .p)) (rows (W S) (ℓ S + 1) Q)) ≤ ℓ S
     unfolding curve-length
-    fit-each L = few-alive (S .p) (f .setting .passed .prime) (W S) (ℓ S) L Q wide (f .whole) live
+    passing-each L = few-alive (S .p) (f .setting .passed .prime) (W S) (ℓ S) L Q wide (f .whole) live
 
-    fit-tried : tried-of S Q ≤ 1 + ℓ S * S .k
+    passing-tried : tried-of S Q ≤ 1 + ℓ S * S .k
     unfolding tried-of curve-length
-    fit-tried =
+    passing-tried =
         bound (S .p) (f .setting .passed .prime) (S .k) (W S) (ℓ S) Q wide (f .whole)
         (λ j l. under-at (S .p) Q (f .small) j (omega (arith, f .whole))) live
 
     demanded : (output : List ℕ) → let fs = list-of S points word Q in
         Demanded S points word Q (length fs) (tried-of S Q) output (over (flatten fs) output)
     demanded output = record {
-      list = ap length fit-readings;
-      written = ap (λ fs. over (flatten fs) output) fit-readings;
+      list = ap length passing-readings;
+      written = ap (λ fs. over (flatten fs) output) passing-readings;
       counted = refl;
-      each = fit-each;
-      few = fit-tried;
+      each = passing-each;
+      few = passing-tried;
     }
 
 module _ (S : Setting) (points word Q output work : List ℕ) where
-  list-fit : list-refusal S points word Q (length output) (length work) ≡ 0 → Passing-curve S points word Q
+  list-passing : list-refusal S points word Q (length output) (length work) ≡ 0 → Passing-curve S points word Q
   unfolding list-refusal curve-causes
-  list-fit z =
+  list-passing z =
       let first = none-parts (setting-causes S) _ (setting-named S) z in
       let second = none-parts (curve-causes S points word Q) _ (point-named (S .p) (S .n) points _) (first .1) in
       let rooms = none-first 8 (ltb (length output) (ℓ S * S .k) || ltb (length work) (R S)) _ (second .1) (λ e. omega arith) in
@@ -93,22 +93,30 @@ module _ (S : Setting) (points word Q output work : List ℕ) where
   list-reads o e z =
       let d = list-decided S points word Q output work e in
       let none = sym (d .is-number) ∙ z in
-      rw (d .accepted none) (demanded S points word Q (list-fit none) output)
+      rw (d .accepted none) (demanded S points word Q (list-passing none) output)
+
+-- what a curve is that may be used
+pub usable-parts : (S : Setting) (points word Q : List ℕ) → T (usable S points word Q)
+    → (length Q ≡ curve-length S) × T (under (S .p) Q) × T (fits S points word Q)
+unfolding usable long
+usable-parts S points word Q u =
+    let t = both (eqb (length Q) (curve-length S) && under (S .p) Q) (fits S points word Q) u in
+    let symbols = both (eqb (length Q) (curve-length S)) (under (S .p) Q) (t .0) in
+    (eqb→eq (length Q) (curve-length S) (symbols .0), symbols .1, t .1)
 
 module _ (S : Setting) (points word output curve work : List ℕ) where
-  pub read-fit : read-number S points word output curve work ≡ 0 → (Q : List ℕ) → T (usable S points word Q) → Passing-curve S points word Q
-  unfolding read-refusal word-causes usable long
-  read-fit z Q u =
+  pub read-passing : read-number S points word output curve work ≡ 0 → (Q : List ℕ) → T (usable S points word Q) → Passing-curve S points word Q
+  unfolding read-refusal word-causes
+  read-passing z Q u =
       let first = none-parts (setting-causes S) _ (setting-named S) z in
       let second = none-parts (word-causes S points word) _ (point-named (S .p) (S .n) points _) (first .1) in
-      let t = both (eqb (length Q) (curve-length S) && under (S .p) Q) (fits S points word Q) u in
-      let t2 = both (eqb (length Q) (curve-length S)) (under (S .p) Q) (t .0) in
+      let parts = usable-parts S points word Q u in
       record {
         setting = accepted S (unfold setting-refusal in first .0);
         given = others-given (given (S .p) (S .n) points _ (second .0));
-        whole = eqb→eq (length Q) (curve-length S) (t2 .0);
-        small = t2 .1;
-        passing = t .1;
+        whole = parts .0;
+        small = parts .1;
+        passing = parts .2;
       }
 
   pub read-reads : (o : Reading) → Reads S points word output curve work o → o .refusal ≡ 0
@@ -118,4 +126,4 @@ module _ (S : Setting) (points word output curve work : List ℕ) where
       let d = read-decided S points word output curve work h in
       let none = sym (d .is-number) ∙ z in
       subst (λ (o : Reading). Demanded S points word Q (o .found) (o .tried) output (o .output)) (sym (d .accepted none))
-      (demanded S points word Q (read-fit none Q (h .passes z)) output)
+      (demanded S points word Q (read-passing none Q (h .passes z)) output)

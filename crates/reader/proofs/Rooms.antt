@@ -8,7 +8,7 @@ use native.Mathlib.Omega.{arith}
 use lib.Dec.{T, eqb, ltb}
 use borrow.Author.Tests.{eq-eqb, ne-eqb, ltb-false}
 use Rattle.rules.specs.Refusal.{Cause, _if_, lowest}
-use Rattle.reader.proofs.Lowest.{named, here, later, lowest-none, first-refuses, first-accept, none-first, none-parts}
+use Rattle.rules.proofs.Lowest.{named, here, later, lowest-none, first-refuses, first-accept, none-first, none-parts}
 
 neither : (b c : Bool) → b || c ≡ false → (b ≡ false) × (c ≡ false)
 neither true c e = absurd (let z : _≡_ {A = ℕ} 0 1 = cc in omega arith)

@@ -1,28 +1,20 @@
 -- When a message meets a triple, and how a score over slices goes on place by place.
 use mathlib.Core.Path.{_≡_, refl, ap, _∙_}
 use mathlib.Core.Bool.{true, false, cond}
-use mathlib.Core.List.{List, [], _∷_}
-use Prim.Native.Nat.{ℕ, zero, suc, _+_, _%_, _<_, _≤_}
+use mathlib.Core.List.{List}
+use Prim.Native.Nat.{ℕ, _+_, _<_, _≤_}
 use native.Mathlib.Numerals.{add-one}
 use native.Mathlib.Omega.{arith}
-use lib.Dec.{T, ltb, ltb→lt}
+use lib.Dec.{T}
 use lib.ListN.{length, getD, drop, drop-of-length-le}
 use lib.Seq.{drop-cons}
 use borrow.Author.Tests.{ne-eqb}
-use Rattle.rules.specs.Lists.{all, sum}
+use Rattle.rules.specs.Lists.{sum}
 use Rattle.rules.specs.Field.{ops, alike, modulus}
 use Rattle.rules.specs.Code.{Triple, eval, meets, score}
-use Rattle.rules.specs.Refusal.{under}
-use Rattle.rules.proofs.Tests.{both}
 use Rattle.prime.proofs.Below.{eval-below, alike-below, alike-itself}
 use Rattle.curve.specs.Triples.{tripled}
 use Rattle.curve.proofs.Triples.{triple-at}
-
-pub under-at : (q : ℕ) (xs : List ℕ) → T (under q xs) → (j : ℕ) → j < length xs → getD xs j 0 < q
-unfolding under all
-under-at q [] t j l = absurd (omega arith)
-under-at q (x ∷ xs) t zero l = ltb→lt x q (both (ltb x q) (under q xs) t .0)
-under-at q (x ∷ xs) t (suc j) l = under-at q xs (both (ltb x q) (under q xs) t .1) j (omega arith)
 
 module _ (q : ℕ) (m : T (modulus q)) where
   module _ (f : List ℕ) (z : Triple ℕ) where

@@ -22,7 +22,7 @@ use Rattle.reader.specs.declared.terms.Terms.{Terms}
 use Rattle.reader.specs.Terms.{Settled}
 use Rattle.reader.specs.Word.{Worded, Findable, Listable, Readable, scoring-roots}
 use Rattle.reader.proofs.Answers.{is-long}
-use Rattle.reader.proofs.Given.{Given, first-long, first-under, others-given}
+use Rattle.rules.proofs.Given.{Given, first-long, first-under, others-given}
 
 shaped : {S : Setting} → Accepted S → Shaped (S .p) (S .k) (W S) (ℓ S)
 shaped a = record {

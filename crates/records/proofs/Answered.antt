@@ -8,10 +8,10 @@ use lib.ListN.{length, take}
 use borrow.Author.Tests.{eq-eqb, ne-eqb}
 use Rattle.rules.specs.Setting.{Setting}
 use Rattle.rules.specs.Search.{rows}
-use Rattle.rules.specs.Patch.{Held, ready, digits, line, word-refusal, word-turn, missing, word-comes}
+use Rattle.rules.specs.Patch.{Held as Holding, ready, digits, line, word-refusal, word-turn, missing, word-comes}
 use Rattle.text.specs.Wrote.{Wrote}
 use Rattle.text.proofs.Written.{wrote-then, wrote-as}
-use Rattle.records.specs.declared.Held.{Held as Record}
+use Rattle.records.specs.declared.Held.{Held}
 use Rattle.records.specs.declared.Stage.the-variants.{Nothing, Set, Ready}
 use Rattle.records.specs.Holding.{setting-of, held-of, holding, possible, Sound}
 use Rattle.records.specs.Did.{Did, told-turn}
@@ -22,7 +22,7 @@ pub heard-as : {S : Setting} {points word word′ list : List ℕ} {r f : ℕ} �
 heard-as h q = rw q at h
 
 module _ (i : ℕ) {S : Setting} {points word list : List ℕ} {r found : ℕ} (h : Heard S points word list r found) where
-  pub word-refused : ¬ (r ≡ 0) → {held : Held} → held ≡ ready S points → told-turn held i 3 r true ≡ word-turn i S points word
+  pub word-refused : ¬ (r ≡ 0) → {held : Holding} → held ≡ ready S points → told-turn held i 3 r true ≡ word-turn i S points word
   unfolding word-turn
   word-refused n e = rw (← h .is-refusal, ne-eqb r 0 n, e)
 
@@ -33,7 +33,7 @@ module _ (i : ℕ) {S : Setting} {points word list : List ℕ} {r found : ℕ} (
         wrote-as (wrote-then first rest) (ap (λ n. line (digits i) (3 ∷ 0 ∷ n ∷ []) ++ plus-lines (rows (S .k) found list)) (l .count)
         ∙ ap (λ ms. line (digits i) (3 ∷ 0 ∷ length (messages-of S points word) ∷ []) ++ plus-lines ms) (l .rows-are))
 
-    pub word-heard : {held : Record} → held ≡ holding i (ready S points) → w ≤ length d →
+    pub word-heard : {held : Held} → held ≡ holding i (ready S points) → w ≤ length d →
         Did i (word-turn i S points word) d f (record { held = held; wrote = w; more = true })
     unfolding word-turn
     word-heard {held} k l = record {
@@ -44,7 +44,7 @@ module _ (i : ℕ) {S : Setting} {points word list : List ℕ} {r found : ℕ} (
     }
 
 -- by how much is held
-module _ (h : Record) (b : List ℕ) where
+module _ (h : Held) (b : List ℕ) where
   pub word-nothing : h .stage ≡ Nothing → told-turn (held-of h) (h .turns) 3 12 true ≡ word-comes (h .turns) (held-of h) b
   unfolding word-comes missing
   word-nothing e = rw e
@@ -57,7 +57,7 @@ module _ (h : Record) (b : List ℕ) where
   unfolding word-comes
   word-ready e = rw e
 
-module _ (h : Record) (e : h .stage ≡ Ready) where
+module _ (h : Held) (e : h .stage ≡ Ready) where
   pub held-ready : held-of h ≡ ready (setting-of (h .setting)) (take (h .setting .n) (h .points))
   held-ready = rw e
 

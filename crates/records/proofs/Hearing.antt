@@ -19,8 +19,8 @@ use Rattle.rules.proofs.Tests.{both}
 use Rattle.setting.specs.Accepted.{Accepted}
 use Rattle.setting.proofs.Accepted.{accepted}
 use Rattle.reader.specs.Demanded.{Demanded}
-use Rattle.reader.proofs.Lowest.{named, first-accept}
-use Rattle.reader.proofs.Given.{Given, others-alone}
+use Rattle.rules.proofs.Lowest.{named, first-accept}
+use Rattle.rules.proofs.Given.{Given, others-alone}
 use Rattle.reader.proofs.Decided.{read-number, read-decided}
 use Rattle.reader.proofs.Readings.{read-reads}
 use Rattle.reader.proofs.Runs.{Long, rows-flat, flat-length, readings-long}

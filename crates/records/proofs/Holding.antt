@@ -11,7 +11,7 @@ use Rattle.rules.specs.Patch.{Held as Holding, nothing, set, ready, setting-rec
 use Rattle.rules.proofs.Tests.{both}
 use Rattle.parsing.specs.Body.{Bodied}
 use Rattle.records.specs.declared.Held.{Held}
-use Rattle.records.specs.Holding.{held-of, holding, begun, possible, Clean, Sound}
+use Rattle.records.specs.Holding.{held-of, holding, next-turn, possible, Clean, Sound}
 use Rattle.records.proofs.Refused.{points-given}
 
 pub turns-are : (i : ℕ) (held : Holding) → holding i held .turns ≡ i
@@ -53,14 +53,14 @@ module _ (i : ℕ) (held : Holding) {h : Held} (is : h ≡ holding i held) where
   pub sound : T (possible held) → Sound h
   sound p = record { accepted = rw (ap held-of is ∙ kept i held p) p; clean = clean (kept i held p) }
 
-holding-begun : (i : ℕ) (held : Holding) → begun (holding i held) ≡ holding (i + 1) held
+holding-begun : (i : ℕ) (held : Holding) → next-turn (holding i held) ≡ holding (i + 1) held
 unfolding holding
 holding-begun i nothing = refl
 holding-begun i (set S) = refl
 holding-begun i (ready S points) = refl
 
-pub sound-begun : {h r : Held} → Sound h → r ≡ begun h → Sound r
-sound-begun {h} {r} s e = subst Sound (sym e) (record { accepted = s .accepted; clean = ap begun (s .clean) ∙ holding-begun (h .turns) (held-of h) })
+pub sound-begun : {h r : Held} → Sound h → r ≡ next-turn h → Sound r
+sound-begun {h} {r} s e = subst Sound (sym e) (record { accepted = s .accepted; clean = ap next-turn (s .clean) ∙ holding-begun (h .turns) (held-of h) })
 
 drop-replicate : (n m : ℕ) → drop {A = ℕ} n (replicate m 0) ≡ replicate (m - n) 0
 drop-replicate zero m = let e : m - 0 ≡ m = omega arith in ap (λ k. replicate k 0) (sym e)

@@ -7,8 +7,8 @@ use borrow.Author.Tests.{lt-ltb, le-ltb}
 use Rattle.rules.specs.Setting.{Setting, R}
 use Rattle.rules.specs.Refusal.{_if_, lowest, setting-causes, setting-refusal}
 use Rattle.rules.specs.Patch.{program-work, setting-record-refusal, points-refusal}
-use Rattle.reader.proofs.Lowest.{named, first-refuses, first-accept}
-use Rattle.reader.proofs.Given.{Given, given}
+use Rattle.rules.proofs.Lowest.{named, first-refuses, first-accept}
+use Rattle.rules.proofs.Given.{Given, given}
 
 module _ (S : Setting) where
   -- what the setting call refuses is refused

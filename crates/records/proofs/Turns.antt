@@ -8,11 +8,11 @@ use lib.ListN.{length, getD, take, replicate}
 use lib.Seq.{length-sets, sets-eq, take-append-seam, getD-drop}
 use borrow.Author.Tests.{ne-eqb}
 use Rattle.rules.specs.Setting.{Setting}
-use Rattle.rules.specs.Patch.{Held, nothing, set, ready, Turn, pairs, body, setting-in, setting-record-refusal, points-refusal, setting-turn, points-turn, missing, points-come}
+use Rattle.rules.specs.Patch.{Held as Holding, nothing, set, ready, Turn, pairs, body, setting-in, setting-record-refusal, points-refusal, setting-turn, points-turn, missing, points-come}
 use Rattle.parsing.specs.Body.{Bodied}
 use Rattle.records.specs.declared.Done.{Done}
 use Rattle.records.specs.declared.Setting.{Setting as Struct}
-use Rattle.records.specs.declared.Held.{Held as Record}
+use Rattle.records.specs.declared.Held.{Held}
 use Rattle.records.specs.declared.Stage.the-variants.{Nothing, Set, Ready}
 use Rattle.records.specs.Holding.{setting-of, held-of, with-array, holding}
 use Rattle.records.proofs.Refused.{points-given}
@@ -26,10 +26,10 @@ pub did-at : {i j : ℕ} {t : Turn} {d e : List ℕ} {r : Done} → Did i t d e 
 did-at h q = rw q at h
 
 -- the line told, where this is held
-pub told-did : {i : ℕ} (kind refusal : ℕ) {more : Bool} {h : Record} {held : Held} {d e : List ℕ} {r : Done} → h ≡ holding i held → held-of (holding i held) ≡ held →
+pub told-did : {i : ℕ} (kind refusal : ℕ) {more : Bool} {h : Held} {held : Holding} {d e : List ℕ} {r : Done} → h ≡ holding i held → held-of (holding i held) ≡ held →
     Did (h .turns) (told-turn (held-of h) (h .turns) kind refusal more) d e r → Did i (told-turn held i kind refusal more) d e r
 told-did {i} kind refusal {more} {h} {held} is e g =
-    let n : h .turns ≡ i = ap (λ (h : Record). h .turns) is ∙ turns-are i held in
+    let n : h .turns ≡ i = ap (λ (h : Held). h .turns) is ∙ turns-are i held in
     did-at (did-as g (ap (λ x. told-turn x (h .turns) kind refusal more) (ap held-of is ∙ e) ∙ ap (λ k. told-turn held k kind refusal more) n)) n
 
 module _ (i : ℕ) (numbers : List ℕ) {S : Setting} (is : S ≡ setting-in numbers) {r : ℕ} (e : r ≡ setting-record-refusal S) where
@@ -51,7 +51,7 @@ module _ {numbers d e : List ℕ} {m : ℕ} (l : length d ≡ 64) (h : Bodied nu
   body-short = omega (arith, ap length (h .out), length-sets d 0 numbers)
 
 -- accepted points, read into zeros, are what is held
-pub ready-held : {i : ℕ} {s : Struct} {numbers e : List ℕ} {m r : ℕ} {h : Record} → Bodied numbers (replicate 64 0) e m →
+pub ready-held : {i : ℕ} {s : Struct} {numbers e : List ℕ} {m r : ℕ} {h : Held} → Bodied numbers (replicate 64 0) e m →
     r ≡ points-refusal (setting-of s) (take m e) → r ≡ 0 → h ≡ with-array i s e →
     (h ≡ holding i (ready (setting-of s) numbers)) × (held-of (holding i (ready (setting-of s) numbers)) ≡ ready (setting-of s) numbers)
 unfolding holding
@@ -75,7 +75,7 @@ module _ (b : List ℕ) {p n k s τ : ℕ} where
   setting-read u v w x y = simp (getD-drop, u, v, w, x, y)
 
 -- by how much is held
-module _ (h : Record) (b : List ℕ) where
+module _ (h : Held) (b : List ℕ) where
   pub points-missing : h .stage ≡ Nothing → told-turn (held-of h) (h .turns) 2 12 true ≡ points-come (h .turns) (held-of h) b
   unfolding points-come missing
   points-missing e = rw e

@@ -40,8 +40,8 @@ holding turns (set S) = record { turns = turns; stage = Set; setting = struct-of
 holding turns (ready S points) = with-array turns (struct-of S) (points ++ replicate (64 - length points) 0)
 
 -- the same, one turn later
-abbrev pub begun : Held → Held
-begun h = record { turns = h .turns + 1; stage = h .stage; setting = h .setting; points = h .points }
+abbrev pub next-turn : Held → Held
+next-turn h = record { turns = h .turns + 1; stage = h .stage; setting = h .setting; points = h .points }
 
 -- what the program can hold: what it accepted
 unfoldable pub possible : Holding → Bool

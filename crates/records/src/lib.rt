@@ -4,7 +4,7 @@ ghost use Prim.Native.Nat.{_+_, _-_, _^_, _<_, _≤_};
 ghost use lib.Dec.{eqb};
 ghost use lib.ListN.{length};
 ghost use Rattle.rules.specs.Patch.{nothing, set};
-ghost use Rattle.records.specs.Holding.{setting-of, held-of, holding, begun, with-array, Clean, Sound};
+ghost use Rattle.records.specs.Holding.{setting-of, held-of, holding, next-turn, with-array, Clean, Sound};
 ghost use Rattle.records.specs.Did.{Did, told-turn, Stepped};
 
 mod points;
@@ -28,7 +28,7 @@ pub enum Stage {
 }
 
 // What is held: how many turns were taken, the setting from stage Set on, and at stage Ready the points, which are the first n.
-// All else is zero. Nobody but this crate makes or changes one, so that no record's number can be miscounted.
+// All else is zero. Nobody but this crate makes or changes one: a number is counted on by step alone.
 pub struct Held {
     turns: u64,
     stage: Stage,
@@ -102,7 +102,7 @@ pub fn is_full(held: Held) -> bool
 // A turn begins: it has the next number, and holds what was held.
 fn begin(held: Held) -> Held
     requires { ⌜ held .turns + 1 < 2 ^ 64 ⌝ }
-    ensures { λ r. ⌜ r ≡ begun held ⌝ }
+    ensures { λ r. ⌜ r ≡ next-turn held ⌝ }
 {
     let mut next = held;
     next.turns += 1;

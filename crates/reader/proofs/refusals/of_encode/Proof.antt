@@ -1,7 +1,7 @@
 -- of_encode: the first test that fails is the cause of its number; what points, message and room are refused for comes behind.
 use mathlib.Core.Path.{_∙_}
 use Rattle.reader.proofs.Answers.{holds, fails}
-use Rattle.reader.proofs.Given.{point-named}
+use Rattle.rules.proofs.Given.{point-named}
 use Rattle.reader.proofs.Rooms.{eight-behind}
 use Rattle.reader.proofs.Encoding.{encode-refuses-1, encode-refuses-2, encode-rest}
 use borrow.Author.Needs.{needs}

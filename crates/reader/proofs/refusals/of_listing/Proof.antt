@@ -1,6 +1,6 @@
 -- of_listing: what the slices are refused for comes first, and then the room.
 use mathlib.Core.Path.{_∙_}
-use Rattle.reader.proofs.Given.{point-named}
+use Rattle.rules.proofs.Given.{point-named}
 use Rattle.reader.proofs.Rooms.{eight-behind}
 use borrow.Author.Needs.{needs}
 use Rattle.reader.proofs.refusals.of_listing.Statement.{statement}

@@ -7,26 +7,26 @@ use native.Mathlib.Omega.{arith}
 use lib.Dec.{T, eqb, eqb→eq}
 use lib.ListN.{length}
 use borrow.Author.Tests.{eq-eqb}
 use Rattle.rules.specs.Lists.{all, distinct}
 use Rattle.rules.specs.Refusal.{Run, _if_, _of_, lowest, long, under, symbol-causes, point-causes}
 use Rattle.rules.proofs.Tests.{both, same-test}
-use Rattle.reader.proofs.Lowest.{named}
+use Rattle.rules.proofs.Lowest.{named}
 
 -- each run is as long as it has to be
-abbrev pub whole : List Run → Bool
-whole runs = all (λ r. long (r .size) (r .symbols)) runs
+abbrev pub runs-whole : List Run → Bool
+runs-whole runs = all (λ r. long (r .size) (r .symbols)) runs
 
 -- each symbol of each run is below p
-abbrev pub small : ℕ → List Run → Bool
-small p runs = all (λ r. under p (r .symbols)) runs
+abbrev pub runs-small : ℕ → List Run → Bool
+runs-small p runs = all (λ r. under p (r .symbols)) runs
 
 -- n points below p, no two equal, and the other runs
 pub record Given (p n : ℕ) (points : List ℕ) (others : List Run) : Type 0 where
   pub points-long : length points ≡ n
   pub points-under : T (under p points)
   pub apart : T (distinct eqb points)
-  pub others-whole : T (whole others)
-  pub others-small : T (small p others)
+  pub others-whole : T (runs-whole others)
+  pub others-small : T (runs-small p others)
 
 five-to-seven : (a b c : Bool) → lowest ((5 if not a) ∷ (6 if not b) ∷ (7 if not c) ∷ []) ≡ 0 → T a × T b × T c
 unfolding lowest
@@ -37,20 +37,20 @@ five-to-seven false b c z = absurd (omega arith)
 
 -- what the tests say of the first run, and of those behind it
 module _ (n : ℕ) (xs : List ℕ) (others : List Run) where
-  first-whole : T (whole ((n of xs) ∷ others)) → (length xs ≡ n) × T (whole others)
+  first-whole : T (runs-whole ((n of xs) ∷ others)) → (length xs ≡ n) × T (runs-whole others)
   unfolding all long
-  first-whole t = let u = both (eqb (length xs) n) (whole others) t in (eqb→eq (length xs) n (u .0), u .1)
+  first-whole t = let u = both (eqb (length xs) n) (runs-whole others) t in (eqb→eq (length xs) n (u .0), u .1)
 
-  first-small : (p : ℕ) → T (small p ((n of xs) ∷ others)) → T (under p xs) × T (small p others)
+  first-small : (p : ℕ) → T (runs-small p ((n of xs) ∷ others)) → T (under p xs) × T (runs-small p others)
   unfolding all
-  first-small p t = both (under p xs) (small p others) t
+  first-small p t = both (under p xs) (runs-small p others) t
 
 module _ (p n : ℕ) (points : List ℕ) (others : List Run) where
   pub given : lowest (point-causes p n points others) ≡ 0 → Given p n points others
   unfolding point-causes symbol-causes
   given z =
       let runs = (n of points) ∷ others in
-      let t = five-to-seven (whole runs) (small p runs) (distinct eqb points) z in
+      let t = five-to-seven (runs-whole runs) (runs-small p runs) (distinct eqb points) z in
       let five = first-whole n points others (t .0) in
       let six = first-small n points others p (t .1) in
       record { points-long = five .0; points-under = six .0; apart = t .2; others-whole = five .1; others-small = six .1 }
