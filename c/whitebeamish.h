@@ -12,8 +12,8 @@
  *   for (size_t j = 0; j < found[0]; j++)                       every message that fits; there may be none
  *     take(output + j * k);                                     message number j: k symbols, constant term first
  *
- * Link with libwhitebeamish.a: x86-64 Linux only. It needs nothing but memcpy and memset; the most
- * stack that was seen in use is 31 KB.
+ * Link with libwhitebeamish.a: x86-64 Linux only. It needs nothing but memcpy and memset. The most
+ * stack that was seen in use is 33 KB, at k = 64; no proof bounds it.
  * example.c beside this file is a whole program that writes a patch, damages it and reads it. */
 #ifndef WHITEBEAMISH_H
 #define WHITEBEAMISH_H
@@ -89,8 +89,9 @@ enum whitebeamish_refusal {
  * - A buffer that is written (output, curve buffer, work, answer) overlaps no other buffer of the call. Nothing else
  *   reads or writes it while the call runs. Those behind a const pointer may overlap each other.
  * The library cannot test these; where one is broken, nothing is promised. All else is tested: every number and every
- * length is answered. What a buffer that is written held before the call changes no result, with one exception: it is
- * not promised that find and read leave the same curve, nor that read then tells the same beginnings.
+ * length is answered. What a buffer that is written held before the call changes neither the returned number nor what the
+ * call writes, with one exception: it is not promised that find and read leave the same curve, nor that read then tells
+ * the same beginnings.
  *
  * A refused call changes no buffer but the answer. The library keeps nothing between calls and has no memory of its
  * own, so calls with different buffers may run at the same time.

@@ -1,6 +1,7 @@
 # Whether what the documents name is there: statements declared in their files, fields in their records, edits, crates.
 import re
 import unittest
+from collections import Counter
 from pathlib import Path
 
 TOP = Path(__file__).resolve().parents[2]
@@ -45,7 +46,7 @@ def lost(body, cell):
 
 def statements():
     """The rows of docs/PROOFS.md: the cell of names, and the file's path."""
-    return [(row[1], row[2]) for row in cells("docs/PROOFS.md") if len(row) == 3 and "/" in row[2]]
+    return [(row[1], row[2]) for row in cells("docs/PROOFS.md") if len(row) == 3 and row[2] != "File" and row[2].strip("-")]
 
 
 def placed(column):
@@ -71,11 +72,11 @@ class Documents(unittest.TestCase):
         self.assertEqual([(name, path) for name, path in names if not declares(text("crates", path), name)], [])
 
     def test_each_edit_is_named_and_each_named_edit_is_there(self):
-        there = {edit.stem for edit in edits()}
-        words = set(named(text("docs/STATEMENTS.md")))
+        there = Counter(edit.stem for edit in edits())
+        words = Counter(named(text("docs/STATEMENTS.md")))
         in_brackets = [group for row in cells("docs/STATEMENTS.md")[2:] for group in re.findall(r"\(([^()]*`[^()]*)\)", row[3])]
-        self.assertEqual(sorted(there - words), [])
-        self.assertEqual(sorted({edit for group in in_brackets for edit in named(group)} - there), [])
+        self.assertEqual(sorted(there - words), [], "an edit of two crates is named for each")
+        self.assertEqual(sorted({edit for group in in_brackets for edit in named(group)} - set(there)), [])
 
     def test_each_edit_changes_one_place(self):
         for edit in edits():

@@ -20,7 +20,7 @@ use Rattle.records.proofs.Steps.{goes-on}
 use Rattle.records.proofs.Printed.{turns-next, taken-printed}
 use Rattle.records.specs.Takes.{written}
 use Rattle.patch.specs.declared.Left.{Left}
-use Rattle.patch.specs.Completed.{Took, Went, Completed}
+use Rattle.patch.specs.Completed.{Went, Completed}
 
 -- what was read is no more than the record, by its first two bytes
 module _ (all part : List ℕ) (n begun want rest : ℕ) where

@@ -1,4 +1,4 @@
--- The values at the points, one after the other, are the patch; and what a buffer holds when a patch is written at its front.
+-- The values at the points, one after the other, are the patch.
 use mathlib.Core.Path.{_≡_, refl, sym, _∙_}
 use mathlib.Core.List.{List, [], _∷_, map}
 use Prim.Native.Nat.{ℕ, zero, suc, _<_}

@@ -1,4 +1,4 @@
--- Any two outcomes that the contract of a call allows are equal.
+-- Any two outcomes that the contract of a call allows are equal; of finding and reading, those with the same curve.
 use mathlib.Core.Path.{_≡_, sym, ap, _∙_}
 use mathlib.Core.Bool.{Bool}
 use mathlib.Core.List.{List}

@@ -8,7 +8,22 @@ use lib.ListN.{length, getD, take, replicate}
 use lib.Seq.{length-sets, sets-eq, take-append-seam, getD-drop}
 use borrow.Author.Tests.{ne-eqb}
 use Rattle.rules.specs.Setting.{Setting}
-use Rattle.rules.specs.Patch.{Held as Holding, nothing, set, ready, Turn, pairs, body, setting-in, setting-record-refusal, points-refusal, setting-turn, points-turn, missing, points-come}
+use Rattle.rules.specs.Patch.{
+  Held as Holding,
+  nothing,
+  set,
+  ready,
+  Turn,
+  pairs,
+  body,
+  setting-in,
+  setting-record-refusal,
+  points-refusal,
+  setting-turn,
+  points-turn,
+  missing,
+  points-come,
+}
 use Rattle.parsing.specs.Body.{Bodied}
 use Rattle.records.specs.declared.Done.{Done}
 use Rattle.records.specs.declared.Setting.{Setting as Struct}
@@ -26,8 +41,8 @@ pub did-at : {i j : ℕ} {t : Turn} {d e : List ℕ} {r : Done} → Did i t d e 
 did-at h q = rw q at h
 
 -- the line told, where this is held
-pub told-did : {i : ℕ} (kind refusal : ℕ) {more : Bool} {h : Held} {held : Holding} {d e : List ℕ} {r : Done} → h ≡ holding i held → held-of (holding i held) ≡ held →
-    Did (h .turns) (told-turn (held-of h) (h .turns) kind refusal more) d e r → Did i (told-turn held i kind refusal more) d e r
+pub told-did : {i : ℕ} (kind refusal : ℕ) {more : Bool} {h : Held} {held : Holding} {d e : List ℕ} {r : Done} →
+    h ≡ holding i held → held-of (holding i held) ≡ held → Did (h .turns) (told-turn (held-of h) (h .turns) kind refusal more) d e r → Did i (told-turn held i kind refusal more) d e r
 told-did {i} kind refusal {more} {h} {held} is e g =
     let n : h .turns ≡ i = ap (λ (h : Held). h .turns) is ∙ turns-are i held in
     did-at (did-as g (ap (λ x. told-turn x (h .turns) kind refusal more) (ap held-of is ∙ e) ∙ ap (λ k. told-turn held k kind refusal more) n)) n

@@ -1,5 +1,4 @@
 -- search: the curve is copied to the spare, and the search starts with nothing counted.
-use Prim.Native.Nat.{_-_}
 use Rattle.search.proofs.Start.{copied-spare, roots-front}
 use borrow.Author.Needs.{needs}
 use Rattle.search.proofs.search.Statement.{statement}

@@ -1,7 +1,5 @@
 -- write_some: the count of tries ends the loop at the latest, and a write takes no more bytes than there are.
-use mathlib.Core.Path.{_≡_}
 use Prim.Native.Nat.{_-_, _^_, _<_}
-use lib.ListN.{length}
 use borrow.Author.Needs.{needs}
 use Rattle.streams.proofs.write_some.Statement.{statement}
 use Rattle.streams.proofs.write_some.Tie as tie

@@ -28,7 +28,8 @@ told-requires c κs =
     let at-if1 = c .before .before in
     let at-points-refusal = at-if1 .before in
     let at-read-body = at-points-refusal .before .before in
-    let held = ready-held (at-read-body .read-body .ensures) (at-points-refusal .points-refusal .ensures) (at-if1 .if1 .taken) (c .before .with-points .ensures) in
+    let is = at-points-refusal .points-refusal .ensures in
+    let held = ready-held (at-read-body .read-body .ensures) is (at-if1 .if1 .taken) (c .before .with-points .ensures) in
     (clean _ _ (held .0) (held .1), search needs)
 
 same-length : tie.Need-same-length

@@ -43,7 +43,8 @@ returns c =
     let at-read-body = read-from at-read-held in
     let start = entry at-read-body in
     let h = heard-as (at-read-held .read-held .ensures) (body-front refl (at-read-body .read-body .ensures)) in
-    did-as (at-told .told .ensures) (word-refused _ h (at-if1 .if1 .taken) (held-ready (start .args .held) (start .pre .1)) ∙ word-ready (start .args .held) _ (start .pre .1))
+    let held = start .args .held in
+    did-as (at-told .told .ensures) (word-refused _ h (at-if1 .if1 .taken) (held-ready held (start .pre .1)) ∙ word-ready held _ (start .pre .1))
 
 slice-aggregate-numbered-line : tie.Need-slice-aggregate-numbered-line
 slice-aggregate-numbered-line c = search needs
