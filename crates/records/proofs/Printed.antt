@@ -4,9 +4,9 @@ use mathlib.Core.Bool.{Bool, true, false, cond}
 use mathlib.Core.List.{List, [], _∷_, _++_, flatMap}
 use Prim.Native.Nat.{ℕ, zero, suc, _+_, _<_, _≤_}
 use native.Mathlib.Omega.{arith}
-use lib.ListN.{length, take, drop, length-take, length-drop}
-use lib.Seq.{sets-eq, take-at}
-use Rattle.rules.specs.Patch.{nothing, Turn, size, turn, printed-from, printed}
+use lib.ListN.{length, take, drop, replicate, length-take, length-drop, length-replicate}
+use lib.Seq.{sets, sets-eq, take-at}
+use Rattle.rules.specs.Patch.{Held as Holding, nothing, Turn, size, turn, printed-from, printed}
 use Rattle.rules.proofs.Film.{two-size}
 use Rattle.parsing.proofs.Shape.{whole-long}
 use Rattle.text.specs.Wrote.{Wrote}
@@ -33,6 +33,13 @@ module _ {held : Held} {bytes d e : List ℕ} {r : Done} (g : Stepped held bytes
   held-next : Sound held → held-of (r .held) ≡ turn (held .turns + 1) (held-of held) bytes .held
   held-next s = ap held-of (g .did .held) ∙ kept (held .turns + 1) _ (turn-possible (held .turns + 1) (held-of held) bytes (s .accepted))
 
+-- behind a turn that goes on less is left
+shorter : (f i : ℕ) (held : Holding) (input : List ℕ) → length input < suc f → turn i held (take (size input) input) .more ≡ true →
+    length (drop (size input) input) < f
+shorter f i held input l go =
+    let whole = whole-long (take (size input) input) (goes-on i held _ go) in
+    omega (arith, whole, length-take (size input) input, two-size input, length-drop (size input) input)
+
 taken-from : (f : ℕ) (held : Held) (input : List ℕ) (calls : List Call) → Sound held → length input < f → Takes held input calls →
     written calls ≡ printed-from f (held .turns + 1) (held-of held) input
 unfolding written printed-from flatMap
@@ -58,8 +65,7 @@ taken-from (suc f) held input (c ∷ calls) s l t = ap₂ _++_ (text-of (did .te
         written calls ≡ cond (here .more) (printed-from f (suc i) (here .held) rest) []
     behind others true e u =
         let go : here .more ≡ true = sym (did .more) ∙ e in
-        let whole = whole-long (take (size input) input) (goes-on i (held-of held) _ go) in
-        let less : length rest < f = omega (arith, whole, length-take (size input) input, two-size input, length-drop (size input) input) in
+        let less = shorter f i (held-of held) input l go in
         let next : c .done .held .turns + 1 ≡ suc i = omega (arith, turns-next (t .0)) in
         others less u ∙ rw (go, next, held-next (t .0) s) refl
     behind others false e u = let stop : here .more ≡ false = sym (did .more) ∙ e in rw (stop, u) refl
@@ -69,3 +75,44 @@ unfolding printed possible
 taken-printed held input calls e t =
     taken-from (suc (length input)) held input calls (sound _ _ e tt) (omega arith) t
     ∙ ap (λ (h : Held). printed-from (suc (length input)) (h .turns + 1) (held-of h) input) e ∙ rw (turns-are 0 nothing, none-kept 0) refl
+
+-- For any input there are such calls: each answers as the contract of step says.
+
+abbrev answering : Held → List ℕ → Call
+answering held bytes =
+    let t = turn (held .turns + 1) (held-of held) bytes in
+    let room = replicate {A = ℕ} (length (t .text)) 0 in
+    record { before = room; after = sets room 0 (t .text); done = record { held = holding (held .turns + 1) (t .held); wrote = length (t .text); more = t .more } }
+
+answers : (held : Held) (bytes : List ℕ) → Sound held → let c = answering held bytes in Stepped held bytes (c .before) (c .after) (c .done)
+answers held bytes s =
+    let t = turn (held .turns + 1) (held-of held) bytes in
+    let long = length-replicate {A = ℕ} (length (t .text)) 0 in
+    record {
+      sound = sound _ _ refl (turn-possible (held .turns + 1) (held-of held) bytes (s .accepted));
+      did = record { held = refl; text = record { next = omega arith; out = refl }; more = refl; within = omega (arith, long) };
+    }
+
+takes-from : (f : ℕ) (held : Held) (input : List ℕ) → Sound held → length input < f → (calls : List Call) × Takes held input calls
+takes-from zero held input s l = absurd (omega arith)
+takes-from (suc f) held input s l =
+    behind (λ less. takes-from f (c .done .held) rest (g .sound) less) (c .done .more) refl
+  where
+    c : Call
+    c = answering held (take (size input) input)
+
+    g : Stepped held (take (size input) input) (c .before) (c .after) (c .done)
+    g = answers held (take (size input) input) s
+
+    rest : List ℕ
+    rest = drop (size input) input
+
+    behind : (length rest < f → (calls : List Call) × Takes (c .done .held) rest calls) → (more : Bool) → c .done .more ≡ more →
+        (calls : List Call) × Takes held input calls
+    behind others true e =
+        let r = others (shorter f (held .turns + 1) (held-of held) input l e) in (c ∷ r .0, (g, rw e (r .1)))
+    behind others false e = (c ∷ [], (g, rw e refl))
+
+pub taken-exists : (input : List ℕ) → (calls : List Call) × Takes (holding 0 nothing) input calls
+unfolding possible
+taken-exists input = takes-from (suc (length input)) (holding 0 nothing) input (sound _ _ refl tt) (omega arith)
