@@ -21,8 +21,8 @@ use Rattle.prime.proofs.Below.{modulus-two, plus-below, alike-zero}
 use Rattle.prime.proofs.Laws.{laws}
 use Rattle.demands.proofs.Link.{elt-hom}
 use Rattle.buffers.proofs.Part.{at-mid}
-use Rattle.field.specs.Runs.{blank}
-use Rattle.field.proofs.Places.{zeros-blank}
+use Rattle.runs.specs.Runs.{blank}
+use Rattle.runs.proofs.Places.{zeros-blank}
 use Rattle.curve.specs.Weights.{Weights}
 use Rattle.curve.specs.Check.{line, zero-with, zero-below, met}
 use Rattle.curve.proofs.Pairing.{pairing-value}

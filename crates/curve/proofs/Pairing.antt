@@ -11,7 +11,7 @@ use Rattle.rules.specs.Field.{Ops, ops, plus, times}
 use Rattle.rules.specs.Curve.{total, coefficient}
 use Rattle.algebra.specs.Conditions.{Condition, weight}
 use Rattle.algebra.specs.Space.{space, value}
-use Rattle.field.specs.Runs.{products}
+use Rattle.runs.specs.Runs.{products}
 use Rattle.buffers.proofs.Part.{len-mid, at-mid}
 use Rattle.buffers.proofs.Rows.{row-fits}
 use Rattle.curve.specs.Value.{share, pairing}

@@ -14,8 +14,8 @@ use Rattle.rules.specs.Refusal.{under}
 use Rattle.rules.proofs.Tests.{both, below-at, below-of, or-else, same-test}
 use Rattle.prime.proofs.Below.{alike-zero, alike-itself}
 use Rattle.buffers.proofs.Part.{len-mid, at-mid}
-use Rattle.field.specs.Runs.{blank}
-use Rattle.field.proofs.Places.{zero-test, blank-of, blank-at}
+use Rattle.runs.specs.Runs.{blank}
+use Rattle.runs.proofs.Places.{zero-test, blank-of, blank-at}
 
 -- the answer that a loop gives at its end, and where it stops
 pub test-true : (b : Bool) → T b → true ≡ b

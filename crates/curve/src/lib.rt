@@ -14,9 +14,9 @@ ghost use Rattle.curve.specs.Weights.{Lower, Weights};
 ghost use Rattle.curve.specs.Value.{pairing};
 ghost use Rattle.curve.specs.Triples.{tripled};
 ghost use Rattle.curve.specs.Check.{zero-with, zero-below, met, Checkable};
-use field::runs::all_zero;
-use field::runs::dot;
-use field::symbols::mixed;
+use runs::all_zero;
+use runs::dot;
+use symbols::mixed;
 
 // Each row of weights has this many places: no curve is wider.
 pub const WIDE: usize = 256;

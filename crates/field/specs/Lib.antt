@@ -1,4 +1,2 @@
--- The definitions of the crate, each file after those that it rests on.
+-- The definitions of the crate.
 pub mod Answer
-pub mod Euclid
-pub mod Runs

@@ -1,13 +1,10 @@
-// The field calls of document 01. Each tests what it takes, and then asks symbols.rt; runs.rt has the runs of symbols.
+// The field calls of document 01. Each tests what it takes, and then asks crate symbols.
 ghost use mathlib.Core.Path.{_≡_};
 ghost use mathlib.Core.List.{[], _∷_};
 ghost use Rattle.rules.specs.Field.{modulus};
 ghost use Rattle.rules.specs.Refusal.{field-refusal};
 ghost use Rattle.rules.specs.Outcome.{sum-call, difference-call, product-call, inverse-call};
 ghost use Rattle.field.specs.Answer.{answered};
-
-pub mod runs;
-pub mod symbols;
 
 // The refusal number, or 0, and the symbol asked for.
 pub struct Answer {

@@ -25,7 +25,7 @@ use Rattle.prime.proofs.Laws.{laws}
 use Rattle.buffers.proofs.Part.{len-mid, at-mid}
 use Rattle.buffers.proofs.Rows.{row-fits}
 use Rattle.demands.proofs.Link.{elt-hom}
-use Rattle.field.proofs.Places.{under-of}
+use Rattle.runs.proofs.Places.{under-of}
 use Rattle.curve.specs.Shape.{Shaped}
 use Rattle.finder.specs.Slot.{slot, place, curve-at}
 use Rattle.finder.specs.Kept.{First, Picked, Kept, Found}

@@ -7,7 +7,7 @@ ghost use Rattle.curve.specs.Check.{Checkable};
 ghost use Rattle.curve.specs.Triples.{tripled};
 ghost use Rattle.finder.specs.Slot.{slot};
 ghost use Rattle.finder.specs.Kept.{Found};
-use field::runs::copy;
+use runs::copy;
 
 pub mod plan;
 pub mod slots;

@@ -6,9 +6,9 @@ ghost use Rattle.rules.specs.Field.{minus};
 ghost use Rattle.within.specs.Runs.{Runs-apart};
 ghost use Rattle.curve.specs.Shape.{Shaped};
 ghost use Rattle.finder.specs.Slot.{slot, mixed-at, raised-at, Treated, Started, Swept};
-use field::runs::clear;
-use field::symbols::mul;
-use field::symbols::sub;
+use runs::clear;
+use symbols::mul;
+use symbols::sub;
 use within::add_within;
 use within::shift_add;
 

@@ -10,7 +10,7 @@ use crate::slots::raise;
 use crate::slots::room;
 use crate::slots::sweep;
 use curve::value;
-use field::symbols::inv;
+use symbols::inv;
 
 // The values of a condition at the curves that are alive, and 0 for the others. x and y are its weights.
 pub fn evaluate(

@@ -24,7 +24,7 @@ use Rattle.reader.specs.Demanded.{Demanded}
 use Rattle.reader.proofs.Answers.{passing-parts}
 use Rattle.rules.proofs.Lowest.{none-first, none-parts}
 use Rattle.rules.proofs.Given.{Given, given, point-named, first-long, first-under, others-given}
-use Rattle.field.proofs.Places.{under-at}
+use Rattle.runs.proofs.Places.{under-at}
 use Rattle.reader.proofs.First.{setting-named}
 use Rattle.reader.proofs.Decided.{list-decided, read-number, read-decided}
 

@@ -19,7 +19,7 @@ use Rattle.reader.specs.Word.{Listable, scoring-roots}
 use Rattle.reader.specs.Sift.{Scorable, enough}
 use Rattle.reader.proofs.Answers.{passing-parts}
 use Rattle.reader.proofs.Times.{times, times-triples, times-long, times-small}
-use Rattle.field.proofs.Places.{under-at}
+use Rattle.runs.proofs.Places.{under-at}
 use Rattle.reader.proofs.Runs.{keep-long, rows-flat}
 
 module _ {q k w l s : ℕ} {points word curve output work : List ℕ} (h : Listable q k w l s points word curve output work) where

@@ -5,7 +5,7 @@ ghost use mathlib.Core.List.{[], _∷_, _++_};
 ghost use lib.Dec.{eqb};
 ghost use Rattle.rules.specs.Refusal.{_if_, _of_, lowest, point-causes, encode-refusal};
 use crate::slices;
-use field::runs::all_distinct;
+use runs::all_distinct;
 
 // 5 to 7 for n points, m symbols and a curve of that size. The lengths come first, so that what is too long is not gone through.
 pub fn of_proposed(

@@ -8,8 +8,8 @@ ghost use Rattle.rules.specs.Field.{ops, modulus};
 ghost use Rattle.rules.specs.Code.{meets, score};
 ghost use Rattle.curve.specs.Triples.{tripled};
 ghost use Rattle.reader.specs.Sift.{Scorable, Counted, Sifted};
-use field::runs::copy;
-use field::runs::eval;
+use runs::copy;
+use runs::eval;
 
 // The multiplicity, where the message has the symbol at the point, and else 0.
 fn share(q: u16, message: &[u16], point: u16, symbol: u16, m: u16) -> usize

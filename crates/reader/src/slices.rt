@@ -3,7 +3,7 @@ ghost use mathlib.Core.Path.{_≡_};
 ghost use mathlib.Core.Bool.{_&&_, _||_};
 ghost use lib.Dec.{ltb};
 ghost use Rattle.rules.specs.Refusal.{long, under};
-use field::runs::all_below;
+use runs::all_below;
 
 // Whether there are n points and m symbols, and the numbers of a curve are as many as its size.
 pub fn three_long(

@@ -11,7 +11,7 @@ ghost use Rattle.rules.specs.Refusal.{under};
 ghost use Rattle.reader.specs.Word.{Worded, Findable, Curve-left, Listable, Listed, Readable};
 use crate::Outcome;
 use crate::sifting::sift;
-use field::runs::clear;
+use runs::clear;
 use search::search;
 
 // Whether the curve passes for the word.

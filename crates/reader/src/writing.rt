@@ -4,7 +4,7 @@ ghost use lib.Dec.{T};
 ghost use lib.ListN.{length};
 ghost use Rattle.rules.specs.Field.{ops, modulus};
 ghost use Rattle.rules.specs.Code.{encode};
-use field::runs::eval;
+use runs::eval;
 
 // The values of the message's polynomial at the points.
 pub fn write_patch(q: u16, points: &[u16], message: &[u16], patch: &mut [u16])

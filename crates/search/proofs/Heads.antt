@@ -13,7 +13,7 @@ use Rattle.rules.specs.Search.{rows, first, firsts, follows}
 use Rattle.algebra.proofs.Rows.{rows-length}
 use Rattle.prime.proofs.Below.{eval-below, alike-zero}
 use Rattle.buffers.proofs.Rows.{row-fits}
-use Rattle.field.proofs.Value.{eval-none, eval-more, eval-all}
+use Rattle.runs.proofs.Value.{eval-none, eval-more, eval-all}
 use Rattle.search.specs.Slot.{run}
 
 pub run-at : (a n : ℕ) (d : List ℕ) (j : ℕ) → j < n → getD (run a n d) j 0 ≡ getD d (a + j) 0

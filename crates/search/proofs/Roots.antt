@@ -18,8 +18,8 @@ use Rattle.algebra.specs.Search.{found}
 use Rattle.buffers.proofs.Change.{lt-or-ge}
 use Rattle.buffers.proofs.Part.{len-mid}
 use Rattle.buffers.proofs.Rows.{row-end}
-use Rattle.field.specs.Runs.{blank}
-use Rattle.field.proofs.Places.{under-of, zeros-blank}
+use Rattle.runs.specs.Runs.{blank}
+use Rattle.runs.proofs.Places.{under-of, zeros-blank}
 use borrow.Author.Tests.{not-true, not-false}
 use Rattle.search.specs.declared.Sizes.{Sizes}
 use Rattle.search.specs.declared.Tally.{Tally}

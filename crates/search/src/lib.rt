@@ -3,8 +3,8 @@ ghost use mathlib.Core.Path.{_≡_};
 ghost use Prim.Native.Nat.{_+_, _-_, _*_, _<_, _≤_};
 ghost use lib.ListN.{length, take};
 ghost use Rattle.search.specs.Search.{found-at, tried-at, listed, Written, Search-ready, Searched, Asked, Curve-searched, Roots-left, spare, none};
-use field::runs::all_zero;
-use field::runs::copy;
+use runs::all_zero;
+use runs::copy;
 
 pub mod slot;
 

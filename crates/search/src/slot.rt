@@ -6,7 +6,7 @@ ghost use lib.ListN.{length};
 ghost use Rattle.rules.specs.Field.{ops, modulus};
 ghost use Rattle.rules.specs.Search.{rows, follows as may-follow};
 ghost use Rattle.search.specs.Slot.{run, Slot-below, Carried, Turned, Substituted, Tells, Common-power, Moved, Slot-stripped, Nexted};
-use field::symbols::mixed;
+use symbols::mixed;
 use within::add_within;
 use within::copy_within;
 use within::shift;

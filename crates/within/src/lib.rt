@@ -7,18 +7,20 @@ ghost use lib.ListN.{length, getD};
 ghost use Rattle.rules.specs.Field.{modulus};
 ghost use Rattle.buffers.specs.Change.{Changed};
 ghost use Rattle.within.specs.Runs.{Runs-apart, added, shifted, moved, cut};
-use field::symbols::mixed;
+use symbols::mixed_by;
+use symbols::reciprocal;
 
 // The run of n from b on becomes itself plus c times the run from a on.
 pub fn add_within(q: u16, c: u16, work: &mut [u16], a: usize, b: usize, n: usize)
     requires { ⌜ T (modulus q) × Runs-apart a b n × (a + n ≤ length (now work)) × (b + n ≤ length (now work)) ⌝ }
     ensures { λ _. ⌜ Changed (added q c (now (work .entry)) a b) b n (now (work .entry)) (now (work .exit)) ⌝ }
 {
+    let m = reciprocal(q);
     let mut i: usize = 0;
     while i < n {
         let x = work[a + i];
         let y = work[b + i];
-        work[b + i] = mixed(q, y, c, x);
+        work[b + i] = mixed_by(q, m, y, c, x);
         i += 1;
     }
 }
@@ -28,12 +30,13 @@ pub fn shift_add(q: u16, c: u16, work: &mut [u16], a: usize, b: usize, n: usize)
     requires { ⌜ T (modulus q) × ((a ≡ b) ⊎ Runs-apart a b n) × (a + n ≤ length (now work)) × (b + n ≤ length (now work)) ⌝ }
     ensures { λ _. ⌜ Changed (shifted q c (now (work .entry)) a b) b n (now (work .entry)) (now (work .exit)) ⌝ }
 {
+    let m = reciprocal(q);
     let mut last: u16 = 0;
     let mut i: usize = 0;
     while i < n {
         let x = work[a + i];
         let y = work[b + i];
-        work[b + i] = mixed(q, last, c, x);
+        work[b + i] = mixed_by(q, m, last, c, x);
         last = y;
         i += 1;
     }

@@ -7,7 +7,7 @@ use borrow.Author.Count.{below-more}
 use Rattle.curve.specs.Value.{pairing}
 use Rattle.curve.specs.Check.{line, zero-with}
 use Rattle.curve.proofs.Pairing.{part-of}
-use Rattle.field.proofs.Places.{zero-test}
+use Rattle.runs.proofs.Places.{zero-test}
 use Rattle.curve.proofs.Tests.{below-true, below-false}
 use borrow.Author.Needs.{needs}
 use Rattle.curve.proofs.holds_with.Statement.{statement}
