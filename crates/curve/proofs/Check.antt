@@ -23,9 +23,9 @@ use Rattle.demands.proofs.Link.{elt-hom}
 use Rattle.buffers.proofs.Part.{at-mid}
 use Rattle.field.specs.Runs.{blank}
 use Rattle.field.proofs.Places.{zeros-blank}
-use Rattle.curve.specs.Weights.{Weights}
+use Rattle.weights.specs.Weights.{Weights}
 use Rattle.curve.specs.Check.{line, zero-with, zero-below, met}
-use Rattle.curve.proofs.Pairing.{pairing-value}
+use Rattle.weights.proofs.Pairing.{pairing-value}
 use Rattle.curve.proofs.Tests.{test-false, below-same}
 
 -- with the rows of weights at a point and a symbol, the pairings are the values of the triple's conditions

@@ -1,18 +1,16 @@
 -- What the parts of the check decide.
-use mathlib.Core.Path.{_≡_}
 use mathlib.Core.Bool.{Bool}
 use mathlib.Core.List.{List}
-use Prim.Native.Nat.{ℕ, _+_, _-_, _*_, _<_, _≤_}
+use Prim.Native.Nat.{ℕ, _+_, _-_, _*_}
 use lib.Dec.{eqb}
-use lib.ListN.{length, getD, take, drop}
+use lib.ListN.{take, drop}
 use Rattle.rules.specs.Lists.{below, all}
 use Rattle.rules.specs.Field.{ops}
 use Rattle.rules.specs.Code.{Triple}
 use Rattle.rules.specs.Curve.{coefficient}
 use Rattle.algebra.specs.Conditions.{condition}
 use Rattle.algebra.specs.Space.{space, value}
-use Rattle.curve.specs.Shape.{Shaped}
-use Rattle.curve.specs.Value.{pairing}
+use Rattle.weights.specs.Value.{pairing}
 
 -- the first n weights of order a
 abbrev pub line : ℕ → ℕ → List ℕ → List ℕ
@@ -30,11 +28,3 @@ module _ (q k w l : ℕ) where
   -- the curve meets the conditions of the triple
   unfoldable pub met : List ℕ → Triple ℕ → Bool
   met c z = all (λ a. all (λ b. eqb (value (ops q) (space k w l) (condition z b a) (coefficient (ops q) w c)) 0) (below (z .times - a))) (below (z .times))
-
-  -- what the check takes: as many symbols and multiplicities as points, no multiplicity above 4, and a whole curve
-  pub record Checkable (points word times curve : List ℕ) : Type 0 where
-    pub shape : Shaped q k w l
-    pub symbols : length word ≡ length points
-    pub multiplicities : length times ≡ length points
-    pub few : (j : ℕ) → j < length times → getD times j 0 ≤ 4
-    pub whole : length curve ≡ (l + 1) * w

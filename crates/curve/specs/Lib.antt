@@ -1,6 +1,2 @@
--- The definitions of the crate, each file after those that it rests on.
-pub mod Shape
-pub mod Weights
-pub mod Value
-pub mod Triples
+-- The definitions of the crate.
 pub mod Check

@@ -9,8 +9,9 @@ use Rattle.rules.specs.Lists.{from, below}
 use Rattle.algebra.specs.Conditions.{Condition, condition, conditions-along, conditions-at}
 use Rattle.algebra.proofs.Plan.{map-more, flat-more, ready}
 use Rattle.buffers.proofs.Part.{at-mid}
-use Rattle.curve.specs.Weights.{Weights}
-use Rattle.finder.specs.Kept.{Row, Kept, Met, Grown, triple}
+use Rattle.weights.specs.Weights.{Weights}
+use Rattle.condition.specs.Kept.{Row, Kept, Met}
+use Rattle.finder.specs.Found.{Grown, triple}
 
 -- a row of weights, as it is lent
 pub row-part : {q α m n : ℕ} {ws : List ℕ} (a : ℕ) → Weights q α m n ws → a < m → a < 4 → n ≤ 256 →

@@ -3,15 +3,13 @@ ghost use Prim.Native.Nat.{_+_, _-_, _*_, _<_, _≤_};
 ghost use lib.ListN.{length};
 ghost use Rattle.rules.specs.Lists.{below, sum};
 ghost use Rattle.algebra.specs.Conditions.{conditions};
-ghost use Rattle.curve.specs.Check.{Checkable};
-ghost use Rattle.curve.specs.Triples.{tripled};
-ghost use Rattle.finder.specs.Slot.{slot};
-ghost use Rattle.finder.specs.Kept.{Found};
+ghost use Rattle.weights.specs.Triples.{Checkable};
+ghost use Rattle.weights.specs.Triples.{tripled};
+ghost use Rattle.slots.specs.Slot.{slot};
+ghost use Rattle.finder.specs.Found.{Found};
 use field::runs::copy;
 
 pub mod plan;
-pub mod slots;
-pub mod step;
 
 // Writes the least curve that passes for the triples. What work then holds is not said.
 pub fn find(
@@ -33,7 +31,7 @@ pub fn find(
     slots::start(q, k, w, l, work);
     plan::meet_all(q, k, w, l, points, word, times, &mut leads, work);
     let ones = [1u16; 25];
-    let j = step::pivot(q, k, w, l, &leads, &ones);
+    let j = condition::pivot(q, k, w, l, &leads, &ones);
     let s = slots::room(q, k, w, l);
     let at = j * s;
     let e = at + s;

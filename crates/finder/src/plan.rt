@@ -7,14 +7,15 @@ ghost use Rattle.rules.specs.Lists.{below};
 ghost use Rattle.algebra.specs.Hom.{move};
 ghost use Rattle.algebra.specs.Conditions.{condition, conditions-at, conditions};
 ghost use Rattle.prime.specs.Field.{elt};
-ghost use Rattle.curve.specs.Shape.{Shaped};
-ghost use Rattle.curve.specs.Weights.{Weights};
-ghost use Rattle.curve.specs.Triples.{tripled};
-ghost use Rattle.finder.specs.Slot.{slot};
-ghost use Rattle.finder.specs.Kept.{Fit, Row, triple, Grown};
-use crate::step::condition;
-use curve::WIDE;
-use curve::weigh_all;
+ghost use Rattle.weights.specs.Shape.{Shaped};
+ghost use Rattle.weights.specs.Weights.{Weights};
+ghost use Rattle.weights.specs.Triples.{tripled};
+ghost use Rattle.slots.specs.Slot.{slot};
+ghost use Rattle.condition.specs.Kept.{Fit, Row};
+ghost use Rattle.finder.specs.Found.{triple, Grown};
+use condition::condition;
+use weights::WIDE;
+use weights::weigh_all;
 
 // The conditions of the orders below n in x: xs has the weights for x of each order, y those for y of one.
 fn along(

@@ -5,7 +5,7 @@ use native.Mathlib.Omega.{arith}
 use lib.Dec.{T}
 use borrow.Author.Count.{below-more}
 use Rattle.curve.specs.Check.{line, zero-with, zero-below}
-use Rattle.curve.proofs.Pairing.{part-of}
+use Rattle.weights.proofs.Pairing.{part-of}
 use Rattle.curve.proofs.Tests.{said-yes, said-no, below-true, below-false}
 use borrow.Author.Needs.{needs}
 use Rattle.curve.proofs.holds.Statement.{statement}

@@ -4,9 +4,9 @@ use Prim.Native.Nat.{ℕ, _+_, _-_, _*_, _<_, _≤_}
 use native.Mathlib.Omega.{arith}
 use lib.Dec.{T, eqb, eqb→eq}
 use borrow.Author.Count.{below-more}
-use Rattle.curve.specs.Value.{pairing}
+use Rattle.weights.specs.Value.{pairing}
 use Rattle.curve.specs.Check.{line, zero-with}
-use Rattle.curve.proofs.Pairing.{part-of}
+use Rattle.weights.proofs.Pairing.{part-of}
 use Rattle.field.proofs.Places.{zero-test}
 use Rattle.curve.proofs.Tests.{below-true, below-false}
 use borrow.Author.Needs.{needs}

@@ -6,8 +6,9 @@ use lib.ListN.{length}
 use Rattle.rules.specs.Lists.{below}
 use Rattle.algebra.specs.Conditions.{condition}
 use Rattle.buffers.proofs.Part.{len-mid}
-use Rattle.curve.specs.Weights.{Weights}
-use Rattle.finder.specs.Kept.{Fit, Row, triple, Grown}
+use Rattle.weights.specs.Weights.{Weights}
+use Rattle.condition.specs.Kept.{Fit, Row}
+use Rattle.finder.specs.Found.{triple, Grown}
 use Rattle.finder.proofs.Grow.{row-part, along-none, along-more}
 use native.Mathlib.Omega.{arith}
 use borrow.Author.Needs.{needs}

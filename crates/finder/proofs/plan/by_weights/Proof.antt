@@ -6,8 +6,9 @@ use lib.ListN.{length}
 use Rattle.rules.specs.Lists.{below}
 use Rattle.algebra.specs.Conditions.{conditions-along}
 use Rattle.buffers.proofs.Part.{len-mid}
-use Rattle.curve.specs.Weights.{Weights}
-use Rattle.finder.specs.Kept.{Fit, triple, Grown}
+use Rattle.weights.specs.Weights.{Weights}
+use Rattle.condition.specs.Kept.{Fit}
+use Rattle.finder.specs.Found.{triple, Grown}
 use Rattle.finder.proofs.Grow.{row-part, fewer, orders-none, orders-more, orders-all}
 use native.Mathlib.Omega.{arith}
 use borrow.Author.Needs.{needs}

@@ -6,8 +6,9 @@ use lib.ListN.{length, take}
 use Rattle.algebra.specs.Hom.{move}
 use Rattle.algebra.specs.Conditions.{conditions}
 use Rattle.prime.specs.Field.{elt}
-use Rattle.curve.specs.Triples.{tripled}
-use Rattle.finder.specs.Kept.{Fit, Grown}
+use Rattle.weights.specs.Triples.{tripled}
+use Rattle.condition.specs.Kept.{Fit}
+use Rattle.finder.specs.Found.{Grown}
 use Rattle.finder.proofs.Triples.{triples-none, triples-more, triples-all}
 use native.Mathlib.Omega.{arith}
 use borrow.Author.Needs.{needs}
