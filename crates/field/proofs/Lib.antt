@@ -1,5 +1,6 @@
 -- The lemmas of the crate, each file after those that it rests on.
 pub mod Reduce
+pub mod Reciprocal
 pub mod Modulus
 pub mod Euclid
 pub mod Value

@@ -1,6 +1,6 @@
 // Single symbols modulo q, which names a field. Any two numbers of 16 bits have a sum, a difference and a product.
 ghost use mathlib.Core.Path.{_≡_};
-ghost use Prim.Native.Nat.{_+_, _*_, _%_, _<_, _≤_};
+ghost use Prim.Native.Nat.{_+_, _*_, _/_, _%_, _<_, _≤_};
 ghost use lib.Dec.{T};
 ghost use Rattle.rules.specs.Field.{ops, plus, minus, times, modulus, inverse};
 ghost use Rattle.field.specs.Euclid.{Chain, Factor};
@@ -18,6 +18,27 @@ pub fn wide(x: u16, y: u16) -> u32
     ensures { λ r. ⌜ (r ≡ x * y) × (r ≤ 65535 * 65535) ⌝ }
 {
     (x as u32) * (y as u32)
+}
+
+// The multiplier by which by_reciprocal divides by q: one division for a whole run.
+pub fn reciprocal(q: u16) -> u32
+    requires { ⌜ 0 < q ⌝ }
+    ensures { λ r. ⌜ r ≡ 4294967295 / q ⌝ }
+{
+    4294967295u32 / (q as u32)
+}
+
+// x modulo q with no division: the quotient by the reciprocal m of q is at most one too low.
+fn by_reciprocal(x: u32, q: u16, m: u32) -> u16
+    requires { ⌜ (0 < q) × (m ≡ 4294967295 / q) ⌝ }
+    ensures { λ r. ⌜ r ≡ x % q ⌝ }
+{
+    let t = ((x as u64) * (m as u64)) >> 32;
+    let r = x - (t as u32) * (q as u32);
+    if r >= q as u32 {
+        return (r - q as u32) as u16;
+    }
+    r as u16
 }
 
 // a + b.
@@ -51,6 +72,14 @@ pub fn mixed(q: u16, d: u16, c: u16, s: u16) -> u16
     ensures { λ r. ⌜ r ≡ plus q d (times q c s) ⌝ }
 {
     reduced(d as u32 + wide(c, s), q)
+}
+
+// The same with the reciprocal m of q, for a loop.
+pub fn mixed_by(q: u16, m: u32, d: u16, c: u16, s: u16) -> u16
+    requires { ⌜ T (modulus q) × (m ≡ 4294967295 / q) ⌝ }
+    ensures { λ r. ⌜ r ≡ plus q d (times q c s) ⌝ }
+{
+    by_reciprocal(d as u32 + wide(c, s), q, m)
 }
 
 // Some number times s0 is r0 and times s1 is r1, modulo q. Times s0 − (r0 / r1)·s1 it is the remainder of r0 by r1.
