@@ -18,10 +18,6 @@ pub row-part : {q α m n : ℕ} {ws : List ℕ} (a : ℕ) → Weights q α m n w
     Row q α a n (take (a * 256 + n - a * 256) (drop (a * 256) ws))
 row-part {n = n} {ws = ws} a W u v b i c = at-mid (a * 256) (a * 256 + n - a * 256) ws (omega (arith, W .len)) i (omega arith) ∙ W .row a u i c
 
--- the weights of fewer orders
-pub fewer : {q α m m′ n : ℕ} {ws : List ℕ} → Weights q α m n ws → m′ ≤ m → Weights q α m′ n ws
-fewer W u = record { len = W .len; row = λ a v. W .row a (omega arith) }
-
 module _ (q k w l : ℕ) where
   pub grown-none : (more : 1 < q → List (Condition (Fin q))) (leads work : List ℕ) → ((h : 1 < q) → more h ≡ []) → Grown q k w l more leads leads work work
   grown-none more leads work e = record { keeps = λ h cs K. subst (λ ds. Kept q h k w l ds leads work) (sym (append-nil cs) ∙ ap (_++_ cs) (sym (e h))) K }

@@ -1,37 +1,43 @@
--- The recurrence that fills a row of weights, and the rows that are there after it.
+-- The recurrences that fill a row of weights, and the rows that are there after them.
 use mathlib.Core.Path.{_≡_, refl, ap, _∙_}
-use mathlib.Core.Logic.{_⊎_, inl, inr}
 use mathlib.Core.List.{List}
 use Prim.Native.Nat.{ℕ, zero, suc, _+_, _-_, _*_, _<_, _≤_}
 use native.Mathlib.Numerals.{add-one}
 use native.Mathlib.Omega.{arith}
 use lib.Dec.{T}
-use lib.ListN.{getD}
+use lib.ListN.{length, getD}
 use borrow.Author.Count.{below-more}
 use Rattle.rules.specs.Field.{ops, plus, times, modulus}
 use Rattle.algebra.specs.Conditions.{weight}
 use Rattle.prime.proofs.Below.{times-below, plus-swapped, plus-from-zero}
 use Rattle.buffers.specs.Change.{Changed}
-use Rattle.weights.specs.Weights.{Lower, Weights}
+use Rattle.weights.specs.Weights.{Weights}
 
 module _ (q α : ℕ) where
-  pub weight-start : (a last : ℕ) → ((a ≡ 0) × (last ≡ 1)) ⊎ (¬ (a ≡ 0) × (last ≡ 0)) → last ≡ weight (ops q) α a 0
+  -- how the rows begin
+  pub power-start : 1 ≡ weight (ops q) α 0 0
   unfolding weight
-  weight-start zero last (inl z) = z .1
-  weight-start zero last (inr z) = absurd (omega arith)
-  weight-start (suc a) last (inl z) = absurd (omega arith)
-  weight-start (suc a) last (inr z) = z .1
+  power-start = refl
+
+  pub weight-start : (a : ℕ) → 0 < a → 0 ≡ weight (ops q) α a 0
+  unfolding weight
+  weight-start zero h = absurd (omega arith)
+  weight-start (suc a) h = refl
 
   module _ (m : T (modulus q)) (i : ℕ) where
-    -- the next weight, from the one before it and the one beside that in the row before
-    pub weight-more : {n : ℕ} {d e : List ℕ} (a low : ℕ) → Weights q α a n d → Changed (weight (ops q) α a) (a * 256) (i + 1) d e → i < n → n ≤ 256 →
-        Lower a i e low →
-        plus q low (times q α (weight (ops q) α a i)) ≡ weight (ops q) α a (i + 1)
+    -- the next power
+    pub power-more : plus q 0 (times q α (weight (ops q) α 0 i)) ≡ weight (ops q) α 0 (i + 1)
     unfolding weight
-    weight-more {n} {d} {e} zero low w h l u r = rw (r .none refl, add-one) (plus-from-zero q _ (times-below q m α _))
-    weight-more {n} {d} {e} (suc a) low w h l u r =
+    power-more = rw add-one (plus-from-zero q _ (times-below q m α _))
+
+    -- the next weight, from the one before it and the one beside that in the row before
+    pub weight-more : {n : ℕ} {d e : List ℕ} (a : ℕ) → 0 < a → Weights q α a n d → Changed (weight (ops q) α a) (a * 256) (i + 1) d e → i < n → n ≤ 256 →
+        plus q (getD e ((a - 1) * 256 + i) 0) (times q α (weight (ops q) α a i)) ≡ weight (ops q) α a (i + 1)
+    unfolding weight
+    weight-more {n} {d} {e} zero p w h l u = absurd (omega arith)
+    weight-more {n} {d} {e} (suc a) p w h l u =
         let at : (suc a - 1) * 256 + i ≡ a * 256 + i = omega arith in
-        let is : low ≡ weight (ops q) α a i = r .some (omega arith) ∙ ap (λ (k : ℕ). getD e k 0) at ∙ h .low (a * 256 + i) (omega arith)
+        let is : getD e ((suc a - 1) * 256 + i) 0 ≡ weight (ops q) α a i = ap (λ (k : ℕ). getD e k 0) at ∙ h .low (a * 256 + i) (omega arith)
         ∙ w .row a (omega arith) i l in
         rw (is, add-one) (plus-swapped q _ _)
 
@@ -43,5 +49,10 @@ module _ (q α : ℕ) where
         (λ i il. h .new i il);
   }
 
-  pub weights-to : {a m n : ℕ} {ws : List ℕ} → Weights q α a n ws → a ≡ m → Weights q α m n ws
-  weights-to w e = rw e at w
+  -- the first row alone
+  pub weights-first : {n : ℕ} {d e : List ℕ} → n ≤ 256 → length d ≡ 1024 → Changed (weight (ops q) α 0) 0 n d e → Weights q α 1 n e
+  weights-first u w h = weights-more {a = 0} u (record { len = w; row = λ a l. absurd (omega arith) }) h
+
+-- the weights of fewer orders
+pub fewer : {q α m m′ n : ℕ} {ws : List ℕ} → Weights q α m n ws → m′ ≤ m → Weights q α m′ n ws
+fewer W u = record { len = W .len; row = λ a v. W .row a (omega arith) }

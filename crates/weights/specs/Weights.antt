@@ -1,7 +1,7 @@
 -- The weights of Hasse derivatives in a slice: a row of 256 places for each order.
 use mathlib.Core.Path.{_≡_}
 use mathlib.Core.List.{List}
-use Prim.Native.Nat.{ℕ, _+_, _-_, _*_, _<_}
+use Prim.Native.Nat.{ℕ, _+_, _*_, _<_}
 use lib.ListN.{length, getD}
 use Rattle.rules.specs.Field.{ops}
 use Rattle.algebra.specs.Conditions.{weight}
@@ -10,8 +10,3 @@ use Rattle.algebra.specs.Conditions.{weight}
 pub record Weights (q α m n : ℕ) (ws : List ℕ) : Type 0 where
   pub len : length ws ≡ 1024
   pub row : (a : ℕ) → a < m → (i : ℕ) → i < n → getD ws (a * 256 + i) 0 ≡ weight (ops q) α a i
-
--- r is the weight beside place i in the row before row a, and 0 where there is no such row
-pub record Lower (a i : ℕ) (ws : List ℕ) (r : ℕ) : Type 0 where
-  pub none : a ≡ 0 → r ≡ 0
-  pub some : 0 < a → r ≡ getD ws ((a - 1) * 256 + i) 0

@@ -4,6 +4,7 @@ use Prim.Native.Nat.{_+_, _*_, _-_, _<_, _≤_}
 use native.Mathlib.Omega.{arith}
 use Rattle.rules.specs.Field.{ops}
 use Rattle.rules.specs.Curve.{total}
+use Rattle.prime.proofs.Below.{modulus-two}
 use Rattle.buffers.proofs.Rows.{row-end}
 use Rattle.weights.specs.Value.{share}
 use Rattle.weights.proofs.Pairing.{row-inside, parts-long, pairing-none, pairing-more, pairing-all}
@@ -12,16 +13,16 @@ use Rattle.weights.proofs.value.Statement.{statement}
 use Rattle.weights.proofs.value.Tie as tie
 
 abbrev Inv-loop : tie.InvT-loop
-Inv-loop q k w l x y curve sum₀ t₀ at₀ off₀ sum t at off = (t ≤ l + 1) × (at ≡ t * w) × (off ≡ t * (k - 1)) × (sum ≡ total (ops q) t (share q k w x y curve))
+Inv-loop q k w l x y curve m sum₀ t₀ at₀ off₀ sum t at off = (t ≤ l + 1) × (at ≡ t * w) × (off ≡ t * (k - 1)) × (sum ≡ total (ops q) t (share q k w x y curve))
 
 abbrev μ-loop : tie.MeasureT-loop
-μ-loop q k w l x y curve sum₀ t₀ at₀ off₀ sum t at off = l + 1 - t
+μ-loop q k w l x y curve m sum₀ t₀ at₀ off₀ sum t at off = l + 1 - t
 
 -- the places that answers look back to: the start from the loop, and the turn's test from its end
 abbrev entry : tie.At-loop Inv-loop μ-loop → tie.Start Inv-loop μ-loop
-entry c = c .before .before .before .before
+entry c = let at-reciprocal = c .before in at-reciprocal .before .before .before .before
 
-abbrev turn : tie.After-mixed Inv-loop μ-loop → tie.In-loop Inv-loop μ-loop
+abbrev turn : tie.After-mixed-by Inv-loop μ-loop → tie.In-loop Inv-loop μ-loop
 turn c = c .before .before .before .before .before
 
 -- in a turn, row t ends within the curve and reaches into the space
@@ -29,9 +30,12 @@ inside : (c : tie.In-loop Inv-loop μ-loop) → let x = entry (c .before) .args 
     (t * (x .k - 1) < x .w) × (t * x .w + x .w ≤ (x .l + 1) * x .w)
 inside c = row-inside _ _ _ _ (entry (c .before) .pre .0 .fits) (c .loop-test .taken)
 
+reciprocal-requires : tie.Need-reciprocal-requires Inv-loop μ-loop
+reciprocal-requires c κs = let start = c .before .before .before in omega (arith, modulus-two (start .args .q) (start .pre .0 .field))
+
 loop-holds : tie.Need-loop-holds Inv-loop μ-loop
 loop-holds c =
-    let x = c .before .before .before .args in
+    let x = c .before .before .before .before .args in
     (search needs, search needs, search needs, pairing-none (x .q) (x .k) (x .w) (x .x .now) (x .y .now) (x .curve .now))
 
 sub-n : tie.Need-sub-n Inv-loop μ-loop
@@ -70,14 +74,16 @@ dot-requires c κs =
     let p = parts-long (start .args .w - l .off) (l .at) (start .args .x .now) (start .args .curve .now) (omega arith) (omega arith) in
     (start .pre .0 .field, omega arith, omega arith)
 
-mul-mixed : tie.Need-mul-mixed Inv-loop μ-loop
-mul-mixed c = search needs
+mul-mixed-by : tie.Need-mul-mixed-by Inv-loop μ-loop
+mul-mixed-by c = search needs
 
-shared-slice-read-mixed : tie.Need-shared-slice-read-mixed Inv-loop μ-loop
-shared-slice-read-mixed c = search needs
+shared-slice-read-mixed-by : tie.Need-shared-slice-read-mixed-by Inv-loop μ-loop
+shared-slice-read-mixed-by c = search needs
 
-mixed-requires : tie.Need-mixed-requires Inv-loop μ-loop
-mixed-requires c κs = search needs
+mixed-by-requires : tie.Need-mixed-by-requires Inv-loop μ-loop
+mixed-by-requires c κs =
+    let at-loop = c .before .before .before .before .before in
+    (entry at-loop .pre .0 .field, at-loop .before .reciprocal .ensures)
 
 add-at : tie.Need-add-at Inv-loop μ-loop
 add-at c = omega (arith, inside (turn c))
@@ -103,7 +109,7 @@ loop-again c =
       search needs,
       omega (arith, row-end (l .t) (x .w)),
       omega (arith, row-end (l .t) (x .k - 1)),
-      c .mixed .ensures ∙ pairing-more (x .q) (x .k) (x .w) (x .x .now) (x .y .now) (x .curve .now) (l .t) (l .inv .1) (l .inv .2) (omega arith)
+      c .mixed-by .ensures ∙ pairing-more (x .q) (x .k) (x .w) (x .x .now) (x .y .now) (x .curve .now) (l .t) (l .inv .1) (l .inv .2) (omega arith)
           (omega arith) (l .inv .3) (c .before .before .dot .ensures),
     )
 
@@ -118,6 +124,7 @@ value-spec =
     (tie.spec
     Inv-loop
     μ-loop
+    reciprocal-requires
     loop-holds
     sub-n
     add-e
@@ -129,9 +136,9 @@ value-spec =
     part-dot-start-2
     part-dot-end-2
     dot-requires
-    mul-mixed
-    shared-slice-read-mixed
-    mixed-requires
+    mul-mixed-by
+    shared-slice-read-mixed-by
+    mixed-by-requires
     add-at
     sub-off
     add-off

@@ -9,7 +9,8 @@ use Rattle.buffers.proofs.Part.{len-mid}
 use Rattle.weights.specs.Weights.{Weights}
 use Rattle.condition.specs.Kept.{Fit}
 use Rattle.finder.specs.Found.{triple, Grown}
-use Rattle.finder.proofs.Grow.{row-part, fewer, orders-none, orders-more, orders-all}
+use Rattle.weights.proofs.Weights.{fewer}
+use Rattle.finder.proofs.Grow.{row-part, orders-none, orders-more, orders-all}
 use native.Mathlib.Omega.{arith}
 use borrow.Author.Needs.{needs}
 use Rattle.finder.proofs.plan.by_weights.Statement.{statement}
