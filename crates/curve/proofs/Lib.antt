@@ -1,3 +1,3 @@
--- The lemmas of the crate, each file after those that it rests on.
-pub mod Tests
+-- The lemmas of the crate.
+pub mod Clear
 pub mod Check

@@ -7,13 +7,10 @@ ghost use Rattle.rules.specs.Field.{ops};
 ghost use Rattle.rules.specs.Lists.{all};
 ghost use Rattle.rules.specs.Curve.{weighted, passes};
 ghost use Rattle.rules.specs.Refusal.{under};
-ghost use Rattle.weights.specs.Shape.{Shaped};
 ghost use Rattle.weights.specs.Triples.{tripled, Checkable};
-ghost use Rattle.curve.specs.Check.{zero-with, zero-below, met};
+ghost use Rattle.multiplicity.specs.Met.{met};
 use field::runs::all_zero;
-use weights::WIDE;
-use weights::value;
-use weights::weigh_all;
+use multiplicity::through;
 
 // Whether each coefficient with i + t·(k−1) ≥ w is zero: of each row what lies behind the part that can be nonzero.
 fn weighted(k: usize, w: usize, l: usize, curve: &[u16]) -> bool
@@ -36,80 +33,7 @@ fn weighted(k: usize, w: usize, l: usize, curve: &[u16]) -> bool
     true
 }
 
-// Whether the conditions hold that have the weights x and one of the first n rows of ys.
-fn holds_with(
-    q: u16,
-    k: usize,
-    w: usize,
-    l: usize,
-    n: usize,
-    x: &[u16],
-    ys: &[u16],
-    curve: &[u16],
-) -> bool
-    requires { ⌜ Shaped q k w l × (n ≤ 4) × (length (now x) ≡ w) × (length (now ys) ≡ 1024) × (length (now curve) ≡ (l + 1) * w) ⌝ }
-    ensures { λ r. ⌜ r ≡ zero-with q k w l n (now (x .entry)) (now (ys .entry)) (now (curve .entry)) ⌝ }
-{
-    let mut b: usize = 0;
-    while b < n {
-        let s = b * WIDE;
-        let e = s + (l + 1);
-        if value(q, k, w, l, x, &ys[s..e], curve) != 0 {
-            return false;
-        }
-        b += 1;
-    }
-    true
-}
-
-// Whether the conditions of multiplicity m hold, with the rows of weights at a point and at a symbol.
-fn holds(
-    q: u16,
-    k: usize,
-    w: usize,
-    l: usize,
-    m: usize,
-    xs: &[u16],
-    ys: &[u16],
-    curve: &[u16],
-) -> bool
-    requires { ⌜ Shaped q k w l × (m ≤ 4) × (length (now xs) ≡ 1024) × (length (now ys) ≡ 1024) × (length (now curve) ≡ (l + 1) * w) ⌝ }
-    ensures { λ r. ⌜ r ≡ zero-below q k w l m (now (xs .entry)) (now (ys .entry)) (now (curve .entry)) ⌝ }
-{
-    let mut a: usize = 0;
-    while a < m {
-        let s = a * WIDE;
-        let e = s + w;
-        if !holds_with(q, k, w, l, m - a, &xs[s..e], ys, curve) {
-            return false;
-        }
-        a += 1;
-    }
-    true
-}
-
-// Whether the curve meets the conditions of a triple. Its weights are made once.
-fn through(
-    q: u16,
-    k: usize,
-    w: usize,
-    l: usize,
-    alpha: u16,
-    symbol: u16,
-    m: usize,
-    curve: &[u16],
-) -> bool
-    requires { ⌜ Shaped q k w l × (m ≤ 4) × (length (now curve) ≡ (l + 1) * w) ⌝ }
-    ensures { λ r. ⌜ r ≡ met q k w l (now (curve .entry)) (record { point = alpha; symbol = symbol; times = m }) ⌝ }
-{
-    let mut xs = [0u16; 1024];
-    let mut ys = [0u16; 1024];
-    weigh_all(q, alpha, m, w, &mut xs);
-    weigh_all(q, symbol, m, l + 1, &mut ys);
-    holds(q, k, w, l, m, &xs, &ys, curve)
-}
-
-// Whether it meets those of every triple.
+// Whether the curve meets the conditions of every triple.
 fn through_all(
     q: u16,
     k: usize,

@@ -14,8 +14,8 @@ use Rattle.prime.specs.Field.{elt}
 use Rattle.weights.specs.Triples.{tripled}
 use Rattle.weights.proofs.Triples.{triple-at}
 use Rattle.condition.specs.Kept.{Kept}
-use Rattle.finder.specs.Found.{Grown, triple}
-use Rattle.finder.proofs.Grow.{grown-none, grown-then}
+use Rattle.triple.specs.Grown.{Grown, triple}
+use Rattle.triple.proofs.Grow.{grown-none, grown-then}
 
 tripled-length : (points word times : List ℕ) → length word ≡ length points → length times ≡ length points → length (tripled points word times) ≡ length points
 unfolding tripled

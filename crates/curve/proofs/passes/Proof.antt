@@ -2,7 +2,7 @@
 use mathlib.Core.Path.{sym, _∙_, subst}
 use lib.Dec.{T}
 use Rattle.weights.specs.Triples.{tripled}
-use Rattle.curve.proofs.Tests.{said-yes, said-no}
+use Rattle.multiplicity.proofs.Tests.{said-yes, said-no}
 use Rattle.curve.proofs.Check.{zero-fails, wide-fails, met-passes}
 use borrow.Author.Needs.{needs}
 use Rattle.curve.proofs.passes.Statement.{statement}

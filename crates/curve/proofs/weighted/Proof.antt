@@ -6,7 +6,8 @@ use lib.ListN.{getD}
 use borrow.Author.Count.{below-more}
 use Rattle.buffers.proofs.Rows.{row-end}
 use Rattle.weights.proofs.Pairing.{row-inside}
-use Rattle.curve.proofs.Tests.{said-yes, said-no, Clear, weighted-true, weighted-false, behind-clear, clear-behind}
+use Rattle.multiplicity.proofs.Tests.{said-yes, said-no}
+use Rattle.curve.proofs.Clear.{Clear, weighted-true, weighted-false, behind-clear, clear-behind}
 use borrow.Author.Needs.{needs}
 use Rattle.curve.proofs.weighted.Statement.{statement}
 use Rattle.curve.proofs.weighted.Tie as tie

@@ -1,50 +1,22 @@
--- The tests of the check, place by place: what a loop has seen so far decides them.
+-- The degree condition: rows that hold nothing outside the space.
 use mathlib.Core.Path.{_≡_, sym, _∙_, subst, ap}
-use mathlib.Core.Bool.{Bool, true, false, not, _||_}
+use mathlib.Core.Bool.{Bool, true, false, _||_}
 use mathlib.Core.List.{List, [], _∷_}
 use Prim.Native.Nat.{ℕ, zero, suc, _+_, _-_, _*_, _<_, _≤_}
 use native.Mathlib.Omega.{arith}
 use lib.Dec.{T, not-T, eqb, ltb, eqb→eq, ltb→lt, nltb→le}
 use lib.ListN.{length, getD}
 use borrow.Rule.Slice.PartMut.{midOf}
-use Rattle.rules.specs.Lists.{below, all}
+use Rattle.rules.specs.Lists.{all}
 use Rattle.rules.specs.Field.{ops, alike}
 use Rattle.rules.specs.Curve.{coefficient, weighted}
 use Rattle.rules.specs.Refusal.{under}
-use Rattle.rules.proofs.Tests.{both, below-at, below-of, or-else, same-test}
+use Rattle.rules.proofs.Tests.{both, below-at, below-of, or-else}
 use Rattle.prime.proofs.Below.{alike-zero, alike-itself}
 use Rattle.buffers.proofs.Part.{len-mid, at-mid}
 use Rattle.field.specs.Runs.{blank}
 use Rattle.field.proofs.Places.{zero-test, blank-of, blank-at}
-
--- the answer that a loop gives at its end, and where it stops
-pub test-true : (b : Bool) → T b → true ≡ b
-test-true b t = same-test true b (λ s. t) (λ s. tt)
-
-pub test-false : (b : Bool) → ¬ (T b) → false ≡ b
-test-false b n = same-test false b (λ s. absurd s) (λ s. absurd (n s))
-
--- what a test says that is asked with a `not` before it
-pub said-yes : (r b : Bool) → not r ≡ false → r ≡ b → T b
-said-yes true b e f = subst T f tt
-said-yes false b e f = absurd (subst T e tt)
-
-pub said-no : (r b : Bool) → not r ≡ true → r ≡ b → ¬ (T b)
-said-no true b e f t = subst T (sym e) tt
-said-no false b e f t = subst T (sym f) t
-
-module _ (test : ℕ → Bool) (n : ℕ) where
-  pub below-true : ((i : ℕ) → i < n → T (test i)) → true ≡ all test (below n)
-  below-true h = test-true (all test (below n)) (below-of test n h)
-
-  pub below-false : (i : ℕ) → i < n → ¬ (T (test i)) → false ≡ all test (below n)
-  below-false i l h = test-false (all test (below n)) (λ t. h (below-at test n i t l))
-
--- tests that agree at each number below n
-pub below-same : (f g : ℕ → Bool) (n : ℕ) → ((i : ℕ) → i < n → f i ≡ g i) → all f (below n) ≡ all g (below n)
-below-same f g n h =
-    same-test (all f (below n)) (all g (below n)) (λ t. below-of g n (λ i l. subst T (h i l) (below-at f n i t l)))
-    (λ t. below-of f n (λ i l. subst T (sym (h i l)) (below-at g n i t l)))
+use Rattle.multiplicity.proofs.Tests.{test-true, test-false}
 
 -- a number below q stands for zero only where it is 0
 alike-at : (q : ℕ) (c : List ℕ) (i : ℕ) → T (under q c) → alike q (getD c i 0) 0 ≡ eqb (getD c i 0) 0

@@ -5,13 +5,13 @@ use native.Mathlib.Omega.{arith}
 use lib.Dec.{T, eqb, eqb→eq}
 use borrow.Author.Count.{below-more}
 use Rattle.weights.specs.Value.{pairing}
-use Rattle.curve.specs.Check.{line, zero-with}
+use Rattle.multiplicity.specs.Met.{line, zero-with}
 use Rattle.weights.proofs.Pairing.{part-of}
 use Rattle.field.proofs.Places.{zero-test}
-use Rattle.curve.proofs.Tests.{below-true, below-false}
+use Rattle.multiplicity.proofs.Tests.{below-true, below-false}
 use borrow.Author.Needs.{needs}
-use Rattle.curve.proofs.holds_with.Statement.{statement}
-use Rattle.curve.proofs.holds_with.Tie as tie
+use Rattle.multiplicity.proofs.holds_with.Statement.{statement}
+use Rattle.multiplicity.proofs.holds_with.Tie as tie
 
 abbrev Inv-loop : tie.InvT-loop
 Inv-loop q k w l n x ys curve b₀ b = (b ≤ n) × ((j : ℕ) → j < b → T (eqb (pairing q k w l x (line j (l + 1) ys) curve) 0))

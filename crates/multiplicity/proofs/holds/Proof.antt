@@ -4,12 +4,12 @@ use Prim.Native.Nat.{ℕ, _-_, _*_, _<_, _≤_}
 use native.Mathlib.Omega.{arith}
 use lib.Dec.{T}
 use borrow.Author.Count.{below-more}
-use Rattle.curve.specs.Check.{line, zero-with, zero-below}
+use Rattle.multiplicity.specs.Met.{line, zero-with, zero-below}
 use Rattle.weights.proofs.Pairing.{part-of}
-use Rattle.curve.proofs.Tests.{said-yes, said-no, below-true, below-false}
+use Rattle.multiplicity.proofs.Tests.{said-yes, said-no, below-true, below-false}
 use borrow.Author.Needs.{needs}
-use Rattle.curve.proofs.holds.Statement.{statement}
-use Rattle.curve.proofs.holds.Tie as tie
+use Rattle.multiplicity.proofs.holds.Statement.{statement}
+use Rattle.multiplicity.proofs.holds.Tie as tie
 
 abbrev Inv-loop : tie.InvT-loop
 Inv-loop q k w l m xs ys curve a₀ a = (a ≤ m) × ((j : ℕ) → j < a → T (zero-with q k w l (m - j) (line j w xs) ys curve))

@@ -8,12 +8,12 @@ use Rattle.algebra.specs.Conditions.{conditions}
 use Rattle.prime.specs.Field.{elt}
 use Rattle.weights.specs.Triples.{tripled}
 use Rattle.condition.specs.Kept.{Fit}
-use Rattle.finder.specs.Found.{Grown}
+use Rattle.triple.specs.Grown.{Grown}
 use Rattle.finder.proofs.Triples.{triples-none, triples-more, triples-all}
 use native.Mathlib.Omega.{arith}
 use borrow.Author.Needs.{needs}
-use Rattle.finder.proofs.plan.meet_all.Statement.{statement}
-use Rattle.finder.proofs.plan.meet_all.Tie as tie
+use Rattle.finder.proofs.meet_all.Statement.{statement}
+use Rattle.finder.proofs.meet_all.Tie as tie
 
 abbrev Inv-loop : tie.InvT-loop
 Inv-loop q k w l points word times leads₀ work₀ j₀ leads work j =

@@ -8,13 +8,13 @@ use Rattle.algebra.specs.Conditions.{conditions-along}
 use Rattle.buffers.proofs.Part.{len-mid}
 use Rattle.weights.specs.Weights.{Weights}
 use Rattle.condition.specs.Kept.{Fit}
-use Rattle.finder.specs.Found.{triple, Grown}
+use Rattle.triple.specs.Grown.{triple, Grown}
 use Rattle.weights.proofs.Weights.{fewer}
-use Rattle.finder.proofs.Grow.{row-part, orders-none, orders-more, orders-all}
+use Rattle.triple.proofs.Grow.{row-part, orders-none, orders-more, orders-all}
 use native.Mathlib.Omega.{arith}
 use borrow.Author.Needs.{needs}
-use Rattle.finder.proofs.plan.by_weights.Statement.{statement}
-use Rattle.finder.proofs.plan.by_weights.Tie as tie
+use Rattle.triple.proofs.by_weights.Statement.{statement}
+use Rattle.triple.proofs.by_weights.Tie as tie
 
 abbrev Inv-loop : tie.InvT-loop
 Inv-loop q k w l alpha m xs ys leads₀ work₀ b₀ leads work b =

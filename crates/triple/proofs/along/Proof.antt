@@ -8,12 +8,12 @@ use Rattle.algebra.specs.Conditions.{condition}
 use Rattle.buffers.proofs.Part.{len-mid}
 use Rattle.weights.specs.Weights.{Weights}
 use Rattle.condition.specs.Kept.{Fit, Row}
-use Rattle.finder.specs.Found.{triple, Grown}
-use Rattle.finder.proofs.Grow.{row-part, along-none, along-more}
+use Rattle.triple.specs.Grown.{triple, Grown}
+use Rattle.triple.proofs.Grow.{row-part, along-none, along-more}
 use native.Mathlib.Omega.{arith}
 use borrow.Author.Needs.{needs}
-use Rattle.finder.proofs.plan.along.Statement.{statement}
-use Rattle.finder.proofs.plan.along.Tie as tie
+use Rattle.triple.proofs.along.Statement.{statement}
+use Rattle.triple.proofs.along.Tie as tie
 
 abbrev Inv-loop : tie.InvT-loop
 Inv-loop q k w l alpha n xs y leads₀ work₀ a₀ leads work a =

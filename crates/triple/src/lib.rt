@@ -1,18 +1,15 @@
-// The conditions of triples in their order: for each triple by rising b, and for each b by rising a.
-ghost use mathlib.Core.Path.{_≡_};
+// The conditions of one triple in their order, by rising b and for each b by rising a.
 ghost use mathlib.Core.List.{map};
+ghost use mathlib.Core.Path.{_≡_};
 ghost use Prim.Native.Nat.{ℕ, _+_, _*_, _<_, _≤_};
-ghost use lib.ListN.{length, getD};
+ghost use lib.ListN.{length};
 ghost use Rattle.rules.specs.Lists.{below};
-ghost use Rattle.algebra.specs.Hom.{move};
-ghost use Rattle.algebra.specs.Conditions.{condition, conditions-at, conditions};
-ghost use Rattle.prime.specs.Field.{elt};
+ghost use Rattle.algebra.specs.Conditions.{condition, conditions-at};
 ghost use Rattle.weights.specs.Shape.{Shaped};
 ghost use Rattle.weights.specs.Weights.{Weights};
-ghost use Rattle.weights.specs.Triples.{tripled};
 ghost use Rattle.slots.specs.Slot.{slot};
 ghost use Rattle.condition.specs.Kept.{Fit, Row};
-ghost use Rattle.finder.specs.Found.{triple, Grown};
+ghost use Rattle.triple.specs.Grown.{triple, Grown};
 use condition::condition;
 use weights::WIDE;
 use weights::weigh_all;
@@ -72,7 +69,7 @@ fn by_weights(
 }
 
 // The conditions of a triple. Its weights are made once.
-fn meet(
+pub fn meet(
     q: u16,
     k: usize,
     w: usize,
@@ -92,31 +89,4 @@ fn meet(
     weigh_all(q, alpha, m, w, &mut xs);
     weigh_all(q, symbol, m, l + 1, &mut ys);
     by_weights(q, k, w, l, alpha, m, &xs, &ys, leads, work);
-}
-
-// The conditions of every triple.
-pub fn meet_all(
-    q: u16,
-    k: usize,
-    w: usize,
-    l: usize,
-    points: &[u16],
-    word: &[u16],
-    times: &[u16],
-    leads: &mut [usize],
-    work: &mut [u16],
-)
-    requires { ⌜ Shaped q k w l × (length (now word) ≡ length (now points)) × (length (now times) ≡ length (now points))
-        × ((j : ℕ) → j < length (now times) → getD (now times) j 0 ≤ 4) × (l < length (now leads)) × Fit k w l (now leads)
-        × ((l + 1) * slot w l ≤ length (now work)) ⌝ }
-    ensures { λ _. ⌜ Fit k w l (now (leads .exit)) × Grown q k w l
-        (λ h. conditions (map (move (elt q h)) (tripled (now (points .entry)) (now (word .entry)) (now (times .entry))))) (now (leads .entry))
-        (now (leads .exit)) (now (work .entry)) (now (work .exit)) ⌝ }
-{
-    let mut j: usize = 0;
-    while j < points.len() {
-        let m = times[j] as usize;
-        meet(q, k, w, l, points[j], word[j], m, leads, work);
-        j += 1;
-    }
 }

@@ -1,10 +1,10 @@
 -- through: the rows made are the weights of the triple's conditions.
 use mathlib.Core.Path.{_∙_}
 use native.Mathlib.Omega.{arith}
-use Rattle.curve.proofs.Check.{below-met}
+use Rattle.multiplicity.proofs.Conditions.{below-met}
 use borrow.Author.Needs.{needs}
-use Rattle.curve.proofs.through.Statement.{statement}
-use Rattle.curve.proofs.through.Tie as tie
+use Rattle.multiplicity.proofs.through.Statement.{statement}
+use Rattle.multiplicity.proofs.through.Tie as tie
 
 slice-aggregate-weigh-all : tie.Need-slice-aggregate-weigh-all
 slice-aggregate-weigh-all c = search needs

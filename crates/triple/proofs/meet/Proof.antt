@@ -1,7 +1,7 @@
 -- meet: what is said of any weights holds of those made here.
 use borrow.Author.Needs.{needs}
-use Rattle.finder.proofs.plan.meet.Statement.{statement}
-use Rattle.finder.proofs.plan.meet.Tie as tie
+use Rattle.triple.proofs.meet.Statement.{statement}
+use Rattle.triple.proofs.meet.Tie as tie
 
 slice-aggregate-weigh-all : tie.Need-slice-aggregate-weigh-all
 slice-aggregate-weigh-all c = search needs

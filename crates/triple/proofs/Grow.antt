@@ -11,7 +11,7 @@ use Rattle.algebra.proofs.Plan.{map-more, flat-more, ready}
 use Rattle.buffers.proofs.Part.{at-mid}
 use Rattle.weights.specs.Weights.{Weights}
 use Rattle.condition.specs.Kept.{Row, Kept, Met}
-use Rattle.finder.specs.Found.{Grown, triple}
+use Rattle.triple.specs.Grown.{Grown, triple}
 
 -- a row of weights, as it is lent
 pub row-part : {q α m n : ℕ} {ws : List ℕ} (a : ℕ) → Weights q α m n ws → a < m → a < 4 → n ≤ 256 →

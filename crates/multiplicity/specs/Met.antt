@@ -1,4 +1,4 @@
--- What the parts of the check decide.
+-- What the parts of the check of one triple decide.
 use mathlib.Core.Bool.{Bool}
 use mathlib.Core.List.{List}
 use Prim.Native.Nat.{ℕ, _+_, _-_, _*_}
