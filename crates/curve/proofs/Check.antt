@@ -2,7 +2,7 @@
 use mathlib.Core.Path.{_≡_, refl, sym, _∙_, ap, subst, fun-ext}
 use mathlib.Core.Bool.{Bool, true, false, not, _&&_}
 use mathlib.Core.List.{List, map}
-use Prim.Native.Nat.{ℕ, zero, suc, _+_, _-_, _*_, _<_, _≤_, Fin}
+use Prim.Native.Nat.{ℕ, zero, suc, _+_, _-_, _<_, Fin}
 use native.Mathlib.Omega.{arith}
 use lib.Dec.{T, T-not, not-T, eqb}
 use Rattle.rules.specs.Lists.{all}
@@ -20,60 +20,45 @@ use Rattle.prime.specs.Field.{elt, field}
 use Rattle.prime.proofs.Below.{modulus-two, plus-below, alike-zero}
 use Rattle.prime.proofs.Laws.{laws}
 use Rattle.demands.proofs.Link.{elt-hom}
-use Rattle.buffers.proofs.Part.{at-mid}
 use Rattle.runs.specs.Runs.{blank}
 use Rattle.runs.proofs.Places.{zeros-blank}
-use Rattle.curve.specs.Weights.{Weights}
-use Rattle.curve.specs.Check.{line, zero-with, zero-below, met}
-use Rattle.curve.proofs.Pairing.{pairing-value}
-use Rattle.curve.proofs.Tests.{test-false, below-same}
+use Rattle.multiplicity.specs.Met.{met}
+use Rattle.multiplicity.proofs.Tests.{test-false, below-same}
 
--- with the rows of weights at a point and a symbol, the pairings are the values of the triple's conditions
-module _ (q k w l : ℕ) (c : List ℕ) where
-  pub below-met : (z : Triple ℕ) (xs ys : List ℕ) → w ≤ 256 → l < 256 → z .times ≤ 4 → Weights q (z .point) (z .times) w xs →
-      Weights q (z .symbol) (z .times) (l + 1) ys →
-      zero-below q k w l (z .times) xs ys c ≡ met q k w l c z
-  unfolding zero-below zero-with met condition
-  below-met z xs ys u v f wx wy =
-      below-same _ _ (z .times) (λ a s. below-same _ _ (z .times - a) (λ b t. ap (λ (x : ℕ). eqb x 0)
-      (pairing-value q k w l (line a w xs) (line b (l + 1) ys) c (condition z b a)
-      (λ i h. at-mid (a * 256) w xs (omega (arith, wx .len)) i h ∙ wx .row a s i h)
-      (λ i h. at-mid (b * 256) (l + 1) ys (omega (arith, wy .len)) i (omega arith) ∙ wy .row b (omega arith) i (omega arith)))))
+module _ (q k w l : ℕ) (c : List ℕ) (m : T (modulus q)) where
+  abbrev h : 1 < q
+  h = modulus-two q m
 
-  module _ (m : T (modulus q)) where
-    abbrev h : 1 < q
-    h = modulus-two q m
+  abbrev F : Ops
+  F = field q h
 
-    abbrev F : Ops
-    F = field q h
+  abbrev e : ℕ → Fin q
+  e = elt q h
 
-    abbrev e : ℕ → Fin q
-    e = elt q h
+  total-below : (n : ℕ) (f : ℕ → ℕ) → total (ops q) n f < q
+  unfolding total
+  total-below zero f = omega (arith, modulus-two q m)
+  total-below (suc n) f = plus-below q m _ _
 
-    total-below : (n : ℕ) (f : ℕ → ℕ) → total (ops q) n f < q
-    unfolding total
-    total-below zero f = omega (arith, modulus-two q m)
-    total-below (suc n) f = plus-below q m _ _
+  value-below : (z : Condition ℕ) → value (ops q) (space k w l) z (coefficient (ops q) w c) < q
+  unfolding value
+  value-below z = total-below (l + 1) _
 
-    value-below : (z : Condition ℕ) → value (ops q) (space k w l) z (coefficient (ops q) w c) < q
-    unfolding value
-    value-below z = total-below (l + 1) _
+  module _ (s : T (weighted (ops q) k w l c)) where
+    hasse-test : (z : Condition ℕ) →
+        alike q (hasse (ops q) w l c (z .point) (z .symbol) (z .a) (z .b)) 0 ≡ eqb (value (ops q) (space k w l) z (coefficient (ops q) w c)) 0
+    hasse-test z =
+        elt-hom q m h .same _ _
+        ∙ ap (λ x. F .same x (F .nil)) (hasse-hom (ops q) F e (elt-hom q m h) w l c _ _ _ _
+        ∙ hasse-value F (laws q m h) w l (map e c) k (subst T (weighted-hom (ops q) F e (elt-hom q m h) k w l c) s) (carry e z)
+        ∙ ap (value F (space k w l) (carry e z)) (fun-ext (λ i. fun-ext (λ t. sym (coefficient-hom (ops q) F e (elt-hom q m h) w c i t))))
+        ∙ sym (value-hom (ops q) F e (elt-hom q m h) (space k w l) z (coefficient (ops q) w c)))
+        ∙ sym (elt-hom q m h .same _ _)
+        ∙ alike-zero q _ (value-below z)
 
-    module _ (s : T (weighted (ops q) k w l c)) where
-      hasse-test : (z : Condition ℕ) →
-          alike q (hasse (ops q) w l c (z .point) (z .symbol) (z .a) (z .b)) 0 ≡ eqb (value (ops q) (space k w l) z (coefficient (ops q) w c)) 0
-      hasse-test z =
-          elt-hom q m h .same _ _
-          ∙ ap (λ x. F .same x (F .nil)) (hasse-hom (ops q) F e (elt-hom q m h) w l c _ _ _ _
-          ∙ hasse-value F (laws q m h) w l (map e c) k (subst T (weighted-hom (ops q) F e (elt-hom q m h) k w l c) s) (carry e z)
-          ∙ ap (value F (space k w l) (carry e z)) (fun-ext (λ i. fun-ext (λ t. sym (coefficient-hom (ops q) F e (elt-hom q m h) w c i t))))
-          ∙ sym (value-hom (ops q) F e (elt-hom q m h) (space k w l) z (coefficient (ops q) w c)))
-          ∙ sym (elt-hom q m h .same _ _)
-          ∙ alike-zero q _ (value-below z)
-
-      pub met-through : (z : Triple ℕ) → met q k w l c z ≡ through (ops q) w l c z
-      unfolding met through condition
-      met-through z = below-same _ _ (z .times) (λ a u. below-same _ _ (z .times - a) (λ b v. sym (hasse-test (condition z b a))))
+    pub met-through : (z : Triple ℕ) → met q k w l c z ≡ through (ops q) w l c z
+    unfolding met through condition
+    met-through z = below-same _ _ (z .times) (λ a u. below-same _ _ (z .times - a) (λ b v. sym (hasse-test (condition z b a))))
 
 -- the three tests of a passing curve, one after the other
 module _ (q k w l : ℕ) (zs : List (Triple ℕ)) (c : List ℕ) where

@@ -1,6 +1,3 @@
--- The lemmas of the crate, each file after those that it rests on.
-pub mod Tests
-pub mod Weights
-pub mod Pairing
+-- The lemmas of the crate.
+pub mod Clear
 pub mod Check
-pub mod Triples

@@ -1,88 +1,16 @@
-// A curve on slices: the weights of its Hasse derivatives, its values, and its check.
+// The check of a curve: whether it passes for the triples.
 ghost use mathlib.Core.Path.{_≡_};
 ghost use Prim.Native.Nat.{ℕ, _+_, _-_, _*_, _<_, _≤_};
 ghost use lib.Dec.{T};
 ghost use lib.ListN.{length};
-ghost use Rattle.rules.specs.Field.{ops, modulus};
+ghost use Rattle.rules.specs.Field.{ops};
 ghost use Rattle.rules.specs.Lists.{all};
 ghost use Rattle.rules.specs.Curve.{weighted, passes};
 ghost use Rattle.rules.specs.Refusal.{under};
-ghost use Rattle.algebra.specs.Conditions.{weight};
-ghost use Rattle.buffers.specs.Change.{Changed};
-ghost use Rattle.curve.specs.Shape.{Shaped};
-ghost use Rattle.curve.specs.Weights.{Lower, Weights};
-ghost use Rattle.curve.specs.Value.{pairing};
-ghost use Rattle.curve.specs.Triples.{tripled};
-ghost use Rattle.curve.specs.Check.{zero-with, zero-below, met, Checkable};
+ghost use Rattle.weights.specs.Triples.{tripled, Checkable};
+ghost use Rattle.multiplicity.specs.Met.{met};
 use runs::all_zero;
-use runs::dot;
-use symbols::mixed;
-
-// Each row of weights has this many places: no curve is wider.
-pub const WIDE: usize = 256;
-
-// The weight beside place i in the row before row a, and 0 where there is no such row.
-fn lower(a: usize, i: usize, weights: &[u16]) -> u16
-    requires { ⌜ (a < 4) × (i < 256) × (length (now weights) ≡ 1024) ⌝ }
-    ensures { λ r. ⌜ Lower a i (now (weights .entry)) r ⌝ }
-{
-    if a == 0 {
-        return 0;
-    }
-    let before = (a - 1) * WIDE;
-    weights[before + i]
-}
-
-// The first n weights of order a at α, into row a: each is α times the one before it, plus the one beside that in the row before.
-fn weigh(q: u16, alpha: u16, a: usize, n: usize, weights: &mut [u16])
-    requires { ⌜ T (modulus q) × (a < 4) × (n ≤ 256) × Weights q alpha a n (now weights) ⌝ }
-    ensures { λ _. ⌜ Changed (weight (ops q) alpha a) (a * 256) n (now (weights .entry)) (now (weights .exit)) ⌝ }
-{
-    let at = a * WIDE;
-    let mut last: u16 = 0;
-    if a == 0 {
-        last = 1;
-    }
-    let mut i: usize = 0;
-    while i < n {
-        weights[at + i] = last;
-        last = mixed(q, lower(a, i, weights), alpha, last);
-        i += 1;
-    }
-}
-
-// The first n weights of the orders below m at α.
-pub fn weigh_all(q: u16, alpha: u16, m: usize, n: usize, weights: &mut [u16])
-    requires { ⌜ T (modulus q) × (m ≤ 4) × (n ≤ 256) × (length (now weights) ≡ 1024) ⌝ }
-    ensures { λ _. ⌜ Weights q alpha m n (now (weights .exit)) ⌝ }
-{
-    let mut a: usize = 0;
-    while a < m {
-        weigh(q, alpha, a, n, weights);
-        a += 1;
-    }
-}
-
-// What weights for x and for y make of a curve, by one dot product for each row.
-pub fn value(q: u16, k: usize, w: usize, l: usize, x: &[u16], y: &[u16], curve: &[u16]) -> u16
-    requires { ⌜ Shaped q k w l × (length (now x) ≡ w) × (length (now y) ≡ l + 1) × (length (now curve) ≡ (l + 1) * w) ⌝ }
-    ensures { λ r. ⌜ r ≡ pairing q k w l (now (x .entry)) (now (y .entry)) (now (curve .entry)) ⌝ }
-{
-    let mut sum: u16 = 0;
-    let mut t: usize = 0;
-    let mut at: usize = 0;
-    let mut off: usize = 0;
-    while t <= l {
-        let n = w - off;
-        let e = at + n;
-        let part = dot(q, &x[0..n], &curve[at..e]);
-        sum = mixed(q, sum, y[t], part);
-        at += w;
-        off += k - 1;
-        t += 1;
-    }
-    sum
-}
+use multiplicity::through;
 
 // Whether each coefficient with i + t·(k−1) ≥ w is zero: of each row what lies behind the part that can be nonzero.
 fn weighted(k: usize, w: usize, l: usize, curve: &[u16]) -> bool
@@ -105,80 +33,7 @@ fn weighted(k: usize, w: usize, l: usize, curve: &[u16]) -> bool
     true
 }
 
-// Whether the conditions hold that have the weights x and one of the first n rows of ys.
-fn holds_with(
-    q: u16,
-    k: usize,
-    w: usize,
-    l: usize,
-    n: usize,
-    x: &[u16],
-    ys: &[u16],
-    curve: &[u16],
-) -> bool
-    requires { ⌜ Shaped q k w l × (n ≤ 4) × (length (now x) ≡ w) × (length (now ys) ≡ 1024) × (length (now curve) ≡ (l + 1) * w) ⌝ }
-    ensures { λ r. ⌜ r ≡ zero-with q k w l n (now (x .entry)) (now (ys .entry)) (now (curve .entry)) ⌝ }
-{
-    let mut b: usize = 0;
-    while b < n {
-        let s = b * WIDE;
-        let e = s + (l + 1);
-        if value(q, k, w, l, x, &ys[s..e], curve) != 0 {
-            return false;
-        }
-        b += 1;
-    }
-    true
-}
-
-// Whether the conditions of multiplicity m hold, with the rows of weights at a point and at a symbol.
-fn holds(
-    q: u16,
-    k: usize,
-    w: usize,
-    l: usize,
-    m: usize,
-    xs: &[u16],
-    ys: &[u16],
-    curve: &[u16],
-) -> bool
-    requires { ⌜ Shaped q k w l × (m ≤ 4) × (length (now xs) ≡ 1024) × (length (now ys) ≡ 1024) × (length (now curve) ≡ (l + 1) * w) ⌝ }
-    ensures { λ r. ⌜ r ≡ zero-below q k w l m (now (xs .entry)) (now (ys .entry)) (now (curve .entry)) ⌝ }
-{
-    let mut a: usize = 0;
-    while a < m {
-        let s = a * WIDE;
-        let e = s + w;
-        if !holds_with(q, k, w, l, m - a, &xs[s..e], ys, curve) {
-            return false;
-        }
-        a += 1;
-    }
-    true
-}
-
-// Whether the curve meets the conditions of a triple. Its weights are made once.
-fn through(
-    q: u16,
-    k: usize,
-    w: usize,
-    l: usize,
-    alpha: u16,
-    symbol: u16,
-    m: usize,
-    curve: &[u16],
-) -> bool
-    requires { ⌜ Shaped q k w l × (m ≤ 4) × (length (now curve) ≡ (l + 1) * w) ⌝ }
-    ensures { λ r. ⌜ r ≡ met q k w l (now (curve .entry)) (record { point = alpha; symbol = symbol; times = m }) ⌝ }
-{
-    let mut xs = [0u16; 1024];
-    let mut ys = [0u16; 1024];
-    weigh_all(q, alpha, m, w, &mut xs);
-    weigh_all(q, symbol, m, l + 1, &mut ys);
-    holds(q, k, w, l, m, &xs, &ys, curve)
-}
-
-// Whether it meets those of every triple.
+// Whether the curve meets the conditions of every triple.
 fn through_all(
     q: u16,
     k: usize,

@@ -13,12 +13,11 @@ use Rattle.algebra.proofs.Basis.{start, basis-same}
 use Rattle.prime.specs.Field.{elt, field}
 use Rattle.prime.proofs.Laws.{laws}
 use Rattle.buffers.proofs.Rows.{row-fits}
-use Rattle.curve.specs.Shape.{Shaped}
-use Rattle.finder.specs.Slot.{slot, place, Started}
-use Rattle.finder.specs.Kept.{view, Kept}
-use Rattle.curve.proofs.Pairing.{row-inside}
-use Rattle.finder.proofs.Sweep.{place-in, slot-eq}
-use Rattle.finder.proofs.Turn.{place-eq}
+use Rattle.weights.specs.Shape.{Shaped}
+use Rattle.slots.specs.Slot.{slot, place, Started}
+use Rattle.condition.specs.Kept.{view, Kept}
+use Rattle.weights.proofs.Pairing.{row-inside}
+use Rattle.slots.proofs.Swept.{place-in, slot-eq, place-eq}
 
 module _ {q k w l : ℕ} (s : Shaped q k w l) (h : 1 < q) (work : List ℕ) (B : Started w l work) where
   -- all but the coefficient of y^j in curve j is zero

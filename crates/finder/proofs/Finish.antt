@@ -26,10 +26,11 @@ use Rattle.buffers.proofs.Part.{len-mid, at-mid}
 use Rattle.buffers.proofs.Rows.{row-fits}
 use Rattle.demands.proofs.Link.{elt-hom}
 use Rattle.runs.proofs.Places.{under-of}
-use Rattle.curve.specs.Shape.{Shaped}
-use Rattle.finder.specs.Slot.{slot, place, curve-at}
-use Rattle.finder.specs.Kept.{First, Picked, Kept, Found}
-use Rattle.finder.proofs.Sweep.{place-in}
+use Rattle.weights.specs.Shape.{Shaped}
+use Rattle.slots.specs.Slot.{slot, place, curve-at}
+use Rattle.condition.specs.Kept.{First, Picked, Kept}
+use Rattle.finder.specs.Found.{Found}
+use Rattle.slots.proofs.Swept.{place-in}
 
 module _ {q k w l : ℕ} (s : Shaped q k w l) (zs : List (Triple ℕ)) (few : length (conditions zs) < sum (λ t. w - t * (k - 1)) (below (l + 1)))
     {leads work : List ℕ} (K : (h : 1 < q) → Kept q h k w l (conditions (map (move (elt q h)) zs)) leads work)

@@ -11,10 +11,11 @@ use Rattle.algebra.specs.Hom.{move}
 use Rattle.algebra.specs.Conditions.{conditions, conditions-at}
 use Rattle.algebra.proofs.Plan.{conditions-more}
 use Rattle.prime.specs.Field.{elt}
-use Rattle.curve.specs.Triples.{tripled}
-use Rattle.curve.proofs.Triples.{triple-at}
-use Rattle.finder.specs.Kept.{Kept, Grown, triple}
-use Rattle.finder.proofs.Grow.{grown-none, grown-then}
+use Rattle.weights.specs.Triples.{tripled}
+use Rattle.weights.proofs.Triples.{triple-at}
+use Rattle.condition.specs.Kept.{Kept}
+use Rattle.triple.specs.Grown.{Grown, triple}
+use Rattle.triple.proofs.Grow.{grown-none, grown-then}
 
 tripled-length : (points word times : List ℕ) → length word ≡ length points → length times ≡ length points → length (tripled points word times) ≡ length points
 unfolding tripled

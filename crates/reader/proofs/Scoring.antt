@@ -13,8 +13,8 @@ use Rattle.rules.specs.Lists.{sum}
 use Rattle.rules.specs.Field.{ops, alike, modulus}
 use Rattle.rules.specs.Code.{Triple, eval, meets, score}
 use Rattle.prime.proofs.Below.{eval-below, alike-below, alike-itself}
-use Rattle.curve.specs.Triples.{tripled}
-use Rattle.curve.proofs.Triples.{triple-at}
+use Rattle.weights.specs.Triples.{tripled}
+use Rattle.weights.proofs.Triples.{triple-at}
 
 module _ (q : ℕ) (m : T (modulus q)) where
   module _ (f : List ℕ) (z : Triple ℕ) where

@@ -16,7 +16,7 @@ use Rattle.rules.specs.Refusal.{Run, _of_, long, under, fits}
 use Rattle.rules.specs.Outcome.{usable, list-of, tried-of}
 use Rattle.rules.proofs.Tests.{and}
 use Rattle.algebra.proofs.Agreement.{sifted-times}
-use Rattle.curve.specs.Shape.{Shaped}
+use Rattle.weights.specs.Shape.{Shaped}
 use Rattle.setting.specs.Accepted.{Accepted}
 use Rattle.reader.specs.declared.terms.Terms.{Terms}
 use Rattle.reader.specs.Terms.{Settled}

@@ -7,9 +7,9 @@ use lib.ListN.{length, take, replicate, getD, length-replicate, getD-replicate}
 use Rattle.rules.specs.Code.{triples}
 use Rattle.algebra.specs.Conditions.{conditions}
 use Rattle.algebra.proofs.Plan.{count-triples}
-use Rattle.curve.specs.Triples.{tripled}
-use Rattle.curve.specs.Check.{Checkable}
-use Rattle.curve.proofs.Triples.{tripled-triples}
+use Rattle.weights.specs.Triples.{tripled}
+use Rattle.weights.specs.Triples.{Checkable}
+use Rattle.weights.proofs.Triples.{tripled-triples}
 use Rattle.reader.specs.Word.{Worded}
 
 take-replicate : (s n m : ℕ) → n ≤ m → take n (replicate m s) ≡ replicate n s

@@ -11,7 +11,7 @@ use Rattle.rules.specs.Code.{score, sifted}
 use Rattle.rules.specs.Search.{rows}
 use Rattle.rules.specs.Refusal.{under}
 use Rattle.rules.specs.Outcome.{over}
-use Rattle.curve.specs.Triples.{tripled}
+use Rattle.weights.specs.Triples.{tripled}
 
 -- as many points, symbols of the field and multiplicities: at most 64, and none of the last above 4
 pub record Scorable (q : ℕ) (points word times : List ℕ) : Type 0 where

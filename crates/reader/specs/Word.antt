@@ -11,7 +11,7 @@ use Rattle.rules.specs.Curve.{passes}
 use Rattle.rules.specs.Search.{rows, beginnings, listed}
 use Rattle.rules.specs.Refusal.{under}
 use Rattle.rules.specs.Outcome.{over}
-use Rattle.curve.specs.Shape.{Shaped}
+use Rattle.weights.specs.Shape.{Shaped}
 use Rattle.reader.specs.declared.Outcome.{Outcome}
 
 -- the numbers of an accepted setting, and a word with as many points

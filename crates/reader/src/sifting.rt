@@ -6,7 +6,7 @@ ghost use lib.Dec.{T};
 ghost use lib.ListN.{length};
 ghost use Rattle.rules.specs.Field.{ops, modulus};
 ghost use Rattle.rules.specs.Code.{meets, score};
-ghost use Rattle.curve.specs.Triples.{tripled};
+ghost use Rattle.weights.specs.Triples.{tripled};
 ghost use Rattle.reader.specs.Sift.{Scorable, Counted, Sifted};
 use runs::copy;
 use runs::eval;

@@ -1,8 +1,8 @@
 -- passes: the three tests, in the order of the definition.
 use mathlib.Core.Path.{sym, _∙_, subst}
 use lib.Dec.{T}
-use Rattle.curve.specs.Triples.{tripled}
-use Rattle.curve.proofs.Tests.{said-yes, said-no}
+use Rattle.weights.specs.Triples.{tripled}
+use Rattle.multiplicity.proofs.Tests.{said-yes, said-no}
 use Rattle.curve.proofs.Check.{zero-fails, wide-fails, met-passes}
 use borrow.Author.Needs.{needs}
 use Rattle.curve.proofs.passes.Statement.{statement}

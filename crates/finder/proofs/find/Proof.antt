@@ -9,10 +9,11 @@ use Rattle.algebra.specs.Conditions.{conditions}
 use Rattle.prime.specs.Field.{elt}
 use Rattle.buffers.proofs.Part.{len-mid}
 use Rattle.buffers.proofs.Rows.{row-fits}
-use Rattle.curve.specs.Triples.{tripled}
-use Rattle.finder.specs.Slot.{slot, curve-at}
-use Rattle.finder.specs.Kept.{Kept, Found}
-use Rattle.curve.proofs.Pairing.{row-inside}
+use Rattle.weights.specs.Triples.{tripled}
+use Rattle.slots.specs.Slot.{slot, curve-at}
+use Rattle.condition.specs.Kept.{Kept}
+use Rattle.finder.specs.Found.{Found}
+use Rattle.weights.proofs.Pairing.{row-inside}
 use Rattle.finder.proofs.Begin.{kept-start}
 use Rattle.finder.proofs.Finish.{first, found}
 use native.Mathlib.Omega.{arith}

@@ -4,7 +4,7 @@ use Prim.Native.Nat.{_+_, _-_, _*_, _≤_}
 use lib.ListN.{length, getD}
 use Rattle.rules.specs.Field.{ops}
 use Rattle.rules.specs.Code.{score}
-use Rattle.curve.specs.Triples.{tripled}
+use Rattle.weights.specs.Triples.{tripled}
 use Rattle.runs.proofs.Places.{under-at}
 use Rattle.reader.proofs.Scoring.{behind, behind-more, behind-none}
 use native.Mathlib.Omega.{arith}

@@ -1,0 +1,3 @@
+-- The lemmas of the crate, each file after those that it rests on.
+pub mod Tests
+pub mod Conditions
