@@ -4,7 +4,6 @@ ghost use mathlib.Core.Path.{_≡_};
 ghost use Rattle.rules.specs.Outcome.{encode-call, check-call, list-call, Finds, Reads};
 ghost use Rattle.setting.specs.Call.{asked};
 ghost use Rattle.reader.specs.Calls.{encoded, checked, finding, listing, reading, nothing};
-
 use refusals::slices;
 
 // What the check answers: the refusal number or 0, and yes or no, which is no where it refuses.

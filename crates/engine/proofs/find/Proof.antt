@@ -7,7 +7,7 @@ use lib.ListN.{replicate}
 use Rattle.rules.specs.Field.{ops}
 use Rattle.rules.specs.Curve.{passes}
 use Rattle.engine.proofs.Times.{times-triples, checkable, conditions-are}
-use Rattle.engine.proofs.Clear.{all-clear}
+use Rattle.engine.proofs.Cleared.{all-clear}
 use borrow.Author.Needs.{needs}
 use Rattle.engine.proofs.find.Statement.{statement}
 use Rattle.engine.proofs.find.Tie as tie

@@ -4,7 +4,7 @@ use mathlib.Core.List.{flatten}
 use Prim.Native.Nat.{ℕ, _*_, _≤_}
 use lib.ListN.{length, replicate}
 use Rattle.rules.specs.Outcome.{over}
-use Rattle.engine.proofs.Clear.{all-clear}
+use Rattle.engine.proofs.Cleared.{all-clear}
 use Rattle.engine.proofs.Searching.{searchable, scorable, few-found, enough-is}
 use native.Mathlib.Omega.{arith}
 use borrow.Author.Needs.{needs}
