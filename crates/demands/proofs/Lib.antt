@@ -4,3 +4,5 @@ pub mod Listing
 pub mod Exists
 pub mod Beginnings
 pub mod Readings
+pub mod Runs
+pub mod Passing

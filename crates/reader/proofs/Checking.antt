@@ -10,10 +10,10 @@ use Rattle.rules.specs.Curve.{passes}
 use Rattle.rules.specs.Setting.{Setting}
 use Rattle.rules.specs.Refusal.{_of_, lowest, point-causes, curve-causes, check-refusal}
 use Rattle.rules.specs.Outcome.{check-call}
-use Rattle.reader.specs.declared.terms.Terms.{Terms}
-use Rattle.reader.specs.Terms.{Settled, Posed}
+use Rattle.terms.specs.declared.Terms.{Terms}
+use Rattle.terms.specs.Terms.{Settled, Posed}
 use Rattle.reader.specs.Calls.{checked}
-use Rattle.reader.proofs.First.{setting-refuses, others-decide}
+use Rattle.terms.proofs.First.{setting-refuses, others-decide}
 use Rattle.rules.proofs.Given.{Given, given}
 use Rattle.reader.proofs.Settled.{fits-is}
 

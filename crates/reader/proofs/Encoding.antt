@@ -1,7 +1,7 @@
--- When encode refuses and with which number, what holds where it does not, and what it then answers.
+-- encode, return by return: what holds where it does not refuse, and that it answers as the definition says.
 use mathlib.Core.Path.{_≡_, refl, ap, _∙_}
-use mathlib.Core.Bool.{true, false, not}
-use mathlib.Core.List.{List, [], _∷_, _++_}
+use mathlib.Core.Bool.{not}
+use mathlib.Core.List.{List, [], _∷_}
 use Prim.Native.Nat.{ℕ, _-_, _≤_}
 use native.Mathlib.Omega.{arith}
 use lib.Dec.{T, ltb}
@@ -11,29 +11,15 @@ use borrow.Rule.Slice.PartMut.{putMid}
 use Rattle.rules.specs.Field.{ops, modulus}
 use Rattle.rules.specs.Setting.{code-ranges}
 use Rattle.rules.specs.Code.{encode}
-use Rattle.rules.specs.Refusal.{_if_, _of_, lowest, point-causes, encode-refusal}
+use Rattle.rules.specs.Refusal.{_if_, _of_, encode-refusal}
 use Rattle.rules.specs.Outcome.{encode-call}
 use Rattle.reader.specs.Calls.{encoded}
 use Rattle.rules.proofs.Lowest.{none-first, none-parts}
 use Rattle.rules.proofs.Given.{Given, given, point-named}
 use Rattle.reader.proofs.Front.{over-front}
-use Rattle.reader.proofs.Patch.{length-patch}
+use Rattle.writing.proofs.Patch.{length-patch}
 
 module _ (p n k : ℕ) (points message : List ℕ) (room : ℕ) where
-  pub encode-refuses-1 : modulus p ≡ false → 1 ≡ encode-refusal p n k points message room
-  unfolding encode-refusal lowest
-  encode-refuses-1 a = simp a
-
-  pub encode-refuses-2 : modulus p ≡ true → code-ranges n k ≡ false → 2 ≡ encode-refusal p n k points message room
-  unfolding encode-refusal lowest
-  encode-refuses-2 a b = simp (a, b)
-
-  -- the causes behind the first two
-  pub encode-rest : modulus p ≡ true → code-ranges n k ≡ true
-      → lowest (point-causes p n points ((k of message) ∷ []) ++ (8 if ltb room n) ∷ []) ≡ encode-refusal p n k points message room
-  unfolding encode-refusal lowest
-  encode-rest a b = simp (a, b)
-
   -- what an accepted call may assume
   pub record Encodes : Type 0 where
     pub field : T (modulus p)

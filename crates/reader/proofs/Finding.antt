@@ -11,13 +11,13 @@ use Rattle.rules.specs.Setting.{Setting}
 use Rattle.rules.specs.Refusal.{_if_, _of_, lowest, point-causes, word-causes, find-refusal}
 use Rattle.rules.specs.Outcome.{find-call, Finds}
 use Rattle.reader.specs.declared.Outcome.{Outcome}
-use Rattle.reader.specs.declared.terms.Terms.{Terms}
-use Rattle.reader.specs.Terms.{Settled, Posed}
+use Rattle.terms.specs.declared.Terms.{Terms}
+use Rattle.terms.specs.Terms.{Settled, Posed}
 use Rattle.reader.specs.Calls.{finding, nothing}
-use Rattle.reader.specs.Word.{Findable, Curve-left}
-use Rattle.reader.proofs.First.{setting-refuses, others-decide}
+use Rattle.engine.specs.Word.{Findable, Curve-left}
+use Rattle.terms.proofs.First.{setting-refuses, others-decide}
 use Rattle.rules.proofs.Given.{Given, given, point-named}
-use Rattle.reader.proofs.Rooms.{two-rooms, not-eight}
+use Rattle.refusals.proofs.Rooms.{two-rooms, not-eight}
 use Rattle.reader.proofs.Front.{length-front, over-front, used-over, cleared-front}
 use Rattle.reader.proofs.Settled as settled
 

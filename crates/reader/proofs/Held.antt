@@ -12,7 +12,7 @@ use Rattle.rules.specs.Setting.{Setting}
 use Rattle.rules.specs.Refusal.{find-refusal}
 use Rattle.rules.specs.Outcome.{Finding, Finds, Reading, Reads, over}
 use Rattle.reader.specs.Alike.{Same-list}
-use Rattle.reader.proofs.Runs.{Long, flat-length, readings-long}
+use Rattle.demands.proofs.Runs.{Long, flat-length, readings-long}
 use Rattle.reader.proofs.Decided.{find-decided, read-number, read-decided}
 use Rattle.reader.proofs.Readings.{read-reads}
 

@@ -1,14 +1,5 @@
--- The proofs of crate reader: slices and refusal numbers, then the engine's part, then the calls, and last what holds of every outcome.
-mod Answers
-mod Patch
+-- The proofs of crate reader: the calls, and then what holds of every outcome.
 mod Front
-mod Rooms
-mod Times
-mod Scoring
-pub mod Runs
-mod Sifted
-mod Searching
-mod First
 mod Settled
 mod Encoding
 mod Checking

@@ -14,16 +14,17 @@ use Rattle.rules.specs.Curve.{passes}
 use Rattle.rules.specs.Setting.{Setting}
 use Rattle.rules.specs.Refusal.{Cause, _if_, _of_, lowest, symbol-causes, point-causes, curve-causes, fits, list-refusal}
 use Rattle.rules.specs.Outcome.{over, list-call}
+use Rattle.search.specs.declared.Tally.{Tally}
 use Rattle.reader.specs.declared.Outcome.{Outcome}
-use Rattle.reader.specs.declared.terms.Terms.{Terms}
-use Rattle.reader.specs.Terms.{Settled, Posed}
+use Rattle.terms.specs.declared.Terms.{Terms}
+use Rattle.terms.specs.Terms.{Settled, Posed}
 use Rattle.reader.specs.Calls.{listing, nothing}
-use Rattle.reader.specs.Word.{Listable, Listed}
-use Rattle.reader.proofs.Answers.{holds, fails}
-use Rattle.reader.proofs.First.{setting-refuses, others-decide}
+use Rattle.engine.specs.Word.{Listable, Listed}
+use Rattle.refusals.proofs.Answers.{holds, fails}
+use Rattle.terms.proofs.First.{setting-refuses, others-decide}
 use Rattle.rules.proofs.Lowest.{named, lowest-none, here, later, first-refuses, first-accept}
 use Rattle.rules.proofs.Given.{Given, given, point-named}
-use Rattle.reader.proofs.Rooms.{two-rooms, not-eight}
+use Rattle.refusals.proofs.Rooms.{two-rooms, not-eight}
 use Rattle.reader.proofs.Front.{length-front, cleared-front}
 use Rattle.reader.proofs.Settled as settled
 
@@ -98,9 +99,9 @@ module _ {S : Setting} {t : Terms} {points word Q output work : List ℕ} {numbe
           settled.listable (h .settled) (g .given) (rw (holds e fit) tt) (g .output-fits) (length-front _ _ (g .work-fits))
 
       -- the lent front of work is back
-      pub list-accepted : {output′ front : List ℕ} {r : Outcome}
+      pub list-accepted : {output′ front : List ℕ} {r : Tally}
           → Listed (t .q) (S .k) (t .w) (t .l) (t .s) points word Q output (midOf 0 (t .room - 0) work) output′ front r
-          → listing (r .refusal) (r .found) (r .tried) output′ (putMid 0 (t .room - 0) work front) ≡ list-call S points word Q output work
+          → listing 0 (r .found) (r .tried) output′ (putMid 0 (t .room - 0) work front) ≡ list-call S points word Q output work
       unfolding list-call
       list-accepted o =
           let passing = holds (e ∙ settled.fits-is (h .settled) points word Q) fit in
@@ -109,7 +110,6 @@ module _ {S : Setting} {t : Terms} {points word Q output work : List ℕ} {numbe
           let clear = cleared-front (t .room) work (h .granted none .work-fits) (o .cleared) in
           rw (
             ← accepted,
-            o .refusal,
             o .found ∙ ap length same,
             o .tried ∙ settled.tried-is (h .settled) points word Q,
             o .written ∙ ap (λ fs. over (flatten fs) output) same,

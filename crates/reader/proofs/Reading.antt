@@ -10,14 +10,15 @@ use borrow.Rule.Slice.PartMut.{midOf, putMid}
 use Rattle.rules.specs.Setting.{Setting}
 use Rattle.rules.specs.Refusal.{_if_, _of_, lowest, point-causes, word-causes, read-refusal}
 use Rattle.rules.specs.Outcome.{over, read-call, Reads}
+use Rattle.search.specs.declared.Tally.{Tally}
 use Rattle.reader.specs.declared.Outcome.{Outcome}
-use Rattle.reader.specs.declared.terms.Terms.{Terms}
-use Rattle.reader.specs.Terms.{Settled, Posed}
+use Rattle.terms.specs.declared.Terms.{Terms}
+use Rattle.terms.specs.Terms.{Settled, Posed}
 use Rattle.reader.specs.Calls.{reading, nothing}
-use Rattle.reader.specs.Word.{Readable, Curve-left, Listed}
-use Rattle.reader.proofs.First.{setting-refuses, others-decide}
+use Rattle.engine.specs.Word.{Readable, Curve-left, Listed}
+use Rattle.terms.proofs.First.{setting-refuses, others-decide}
 use Rattle.rules.proofs.Given.{Given, given, point-named}
-use Rattle.reader.proofs.Rooms.{three-rooms, not-eight}
+use Rattle.refusals.proofs.Rooms.{three-rooms, not-eight}
 use Rattle.reader.proofs.Front.{length-front, over-front, used-over, cleared-front}
 use Rattle.reader.proofs.Settled as settled
 
@@ -82,11 +83,11 @@ module _ {S : Setting} {t : Terms} {points word output curve work : List ℕ} {n
         settled.readable (h .settled) (g .given) (g .output-fits) (length-front _ _ (g .curve-fits)) (length-front _ _ (g .work-fits))
 
     -- the lent fronts of curve and work are back
-    pub read-accepted : {output′ Q front : List ℕ} {r : Outcome}
+    pub read-accepted : {output′ Q front : List ℕ} {r : Tally}
         → Curve-left (t .q) (S .k) (t .w) (t .l) (t .s) points word Q (midOf 0 (t .room - 0) work) front
         → Listed (t .q) (S .k) (t .w) (t .l) (t .s) points word Q output (midOf 0 (t .room - 0) work) output′ front r
         → let curve′ = putMid 0 (t .size - 0) curve Q in let work′ = putMid 0 (t .room - 0) work front in
-        Reads S points word output curve work (reading (r .refusal) (r .found) (r .tried) output′ curve′ work′)
+        Reads S points word output curve work (reading 0 (r .found) (r .tried) output′ curve′ work′)
     unfolding read-call
     read-accepted {Q = Q} f o =
         let whole = f .whole ∙ sym (settled.size-is (h .settled)) in
@@ -98,7 +99,6 @@ module _ {S : Setting} {t : Terms} {points word output curve work : List ℕ} {n
           rest = rw used-again (rw (
             ← h .is,
             none,
-            o .refusal,
             o .found ∙ ap length same,
             o .tried ∙ settled.tried-is (h .settled) points word Q,
             o .written ∙ ap (λ fs. over (flatten fs) output) same,

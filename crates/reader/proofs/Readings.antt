@@ -21,11 +21,11 @@ use Rattle.search.proofs.Start.{bound}
 use Rattle.setting.specs.Accepted.{Accepted}
 use Rattle.setting.proofs.Accepted.{accepted}
 use Rattle.reader.specs.Demanded.{Demanded}
-use Rattle.reader.proofs.Answers.{passing-parts}
+use Rattle.demands.proofs.Passing.{passing-parts}
 use Rattle.rules.proofs.Lowest.{none-first, none-parts}
 use Rattle.rules.proofs.Given.{Given, given, point-named, first-long, first-under, others-given}
 use Rattle.runs.proofs.Places.{under-at}
-use Rattle.reader.proofs.First.{setting-named}
+use Rattle.terms.proofs.First.{setting-named}
 use Rattle.reader.proofs.Decided.{list-decided, read-number, read-decided}
 
 module _ (S : Setting) (points word Q : List ℕ) where

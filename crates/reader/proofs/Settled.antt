@@ -18,10 +18,10 @@ use Rattle.rules.proofs.Tests.{and}
 use Rattle.algebra.proofs.Agreement.{sifted-times}
 use Rattle.weights.specs.Shape.{Shaped}
 use Rattle.setting.specs.Accepted.{Accepted}
-use Rattle.reader.specs.declared.terms.Terms.{Terms}
-use Rattle.reader.specs.Terms.{Settled}
-use Rattle.reader.specs.Word.{Worded, Findable, Listable, Readable, scoring-roots}
-use Rattle.reader.proofs.Answers.{is-long}
+use Rattle.terms.specs.declared.Terms.{Terms}
+use Rattle.terms.specs.Terms.{Settled}
+use Rattle.engine.specs.Word.{Worded, Findable, Listable, Readable, scoring-roots}
+use Rattle.refusals.proofs.Answers.{is-long}
 use Rattle.rules.proofs.Given.{Given, first-long, first-under, others-given}
 
 shaped : {S : Setting} → Accepted S → Shaped (S .p) (S .k) (W S) (ℓ S)

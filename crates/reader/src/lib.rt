@@ -1,16 +1,10 @@
-// The public calls of document 01. Each tests its refusals in the table's order, and then asks the engine:
-// curve, finder and search, by way of `word` and `writing`.
+// The public calls of document 01. Each tests its refusals in the table's order, by way of `terms` and `refusals`, and then asks
+// the engine, or `writing` for a patch.
 ghost use mathlib.Core.Path.{_≡_};
 ghost use Rattle.rules.specs.Outcome.{encode-call, check-call, list-call, Finds, Reads};
 ghost use Rattle.setting.specs.Call.{asked};
 ghost use Rattle.reader.specs.Calls.{encoded, checked, finding, listing, reading, nothing};
-
-pub mod refusals;
-mod sifting;
-mod slices;
-mod terms;
-mod word;
-mod writing;
+use refusals::slices;
 
 // What the check answers: the refusal number or 0, and yes or no, which is no where it refuses.
 pub struct Checked {
@@ -75,7 +69,7 @@ pub fn check(
     }
     Checked {
         refusal: 0,
-        yes: word::fits(t.q, k, t.w, t.l, t.s, points, word, curve),
+        yes: engine::fits(t.q, k, t.w, t.l, t.s, points, word, curve),
     }
 }
 
@@ -115,7 +109,7 @@ pub fn find(
     if number != 0 {
         return empty(number);
     }
-    word::find(
+    engine::find(
         t.q,
         k,
         t.w,
@@ -154,10 +148,10 @@ pub fn list(
     if number != 0 {
         return empty(number);
     }
-    if !word::fits(t.q, k, t.w, t.l, t.s, points, word, curve) {
+    if !engine::fits(t.q, k, t.w, t.l, t.s, points, word, curve) {
         return empty(9);
     }
-    word::list(
+    let tally = engine::list(
         t.q,
         k,
         t.w,
@@ -168,7 +162,12 @@ pub fn list(
         curve,
         output,
         &mut work[0..room],
-    )
+    );
+    Outcome {
+        refusal: 0,
+        found: tally.found,
+        tried: tally.tried,
+    }
 }
 
 // Reading: finding, then listing. The curve buffer's front holds the curve used.
@@ -197,7 +196,7 @@ pub fn read(
     if number != 0 {
         return empty(number);
     }
-    word::read(
+    let tally = engine::read(
         t.q,
         k,
         t.w,
@@ -208,5 +207,10 @@ pub fn read(
         output,
         &mut curve[0..size],
         &mut work[0..room],
-    )
+    );
+    Outcome {
+        refusal: 0,
+        found: tally.found,
+        tried: tally.tried,
+    }
 }

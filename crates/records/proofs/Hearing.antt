@@ -23,7 +23,7 @@ use Rattle.rules.proofs.Lowest.{named, first-accept}
 use Rattle.rules.proofs.Given.{Given, others-alone}
 use Rattle.reader.proofs.Decided.{read-number, read-decided}
 use Rattle.reader.proofs.Readings.{read-reads}
-use Rattle.reader.proofs.Runs.{Long, rows-flat, flat-length, readings-long}
+use Rattle.demands.proofs.Runs.{Long, rows-flat, flat-length, readings-long}
 use Rattle.buffers.proofs.Change.{lt-or-ge}
 use Rattle.records.specs.Holding.{possible}
 use Rattle.records.specs.Heard.{Standing, Heard, messages-of}

@@ -9,7 +9,7 @@ use lib.ListN.{take, drop}
 use Rattle.rules.specs.Search.{rows}
 use Rattle.rules.specs.Patch.{line}
 use Rattle.text.proofs.Written.{flat-snoc}
-use Rattle.reader.proofs.Runs.{rows-more}
+use Rattle.demands.proofs.Runs.{rows-more}
 
 abbrev pub plus-lines : List (List ℕ) → List ℕ
 plus-lines ms = flatMap (line (43 ∷ [])) ms

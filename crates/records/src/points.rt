@@ -17,7 +17,7 @@ use crate::with_setting;
 fn points_refusal(s: Setting, points: &[u16]) -> u16
     ensures { λ r. ⌜ r ≡ points-refusal (setting-of s) (now (points .entry)) ⌝ }
 {
-    reader::refusals::of_points(s.p as usize, s.n as usize, points)
+    refusals::of_points(s.p as usize, s.n as usize, points)
 }
 
 // Points for this setting.

@@ -7,7 +7,7 @@ use Rattle.rules.specs.Search.{rows}
 use Rattle.buffers.proofs.Rows.{row-end, row-fits}
 use Rattle.text.specs.Wrote.{Wrote}
 use Rattle.text.proofs.Written.{wrote-none, wrote-then, wrote-as, wrote-len}
-use Rattle.reader.proofs.Runs.{run-long}
+use Rattle.demands.proofs.Runs.{run-long}
 use Rattle.records.proofs.Lines.{plus-lines, lines-none, lines-more}
 use native.Mathlib.Omega.{arith}
 use borrow.Author.Needs.{needs}

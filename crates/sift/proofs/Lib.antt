@@ -1,0 +1,3 @@
+-- The lemmas of the crate: scores first, then the messages kept.
+mod Scoring
+mod Sifted
