@@ -14,10 +14,11 @@ use Rattle.buffers.proofs.Change.{lt-or-ge}
 use Rattle.rules.specs.Patch.{nothing, length-of, size, printed}
 use Rattle.rules.proofs.Film.{two-size}
 use Rattle.parsing.proofs.Shape.{none-stated, too-short, size-unfit, size-front, most-size, whole-long}
+use Rattle.kinds.specs.Holding.{Sound}
 use Rattle.records.specs.declared.Held.{Held}
-use Rattle.records.specs.Holding.{holding, Sound}
+use Rattle.records.specs.Stepped.{holding}
 use Rattle.records.proofs.Steps.{goes-on}
-use Rattle.records.proofs.Printed.{turns-next, taken-printed}
+use Rattle.records.proofs.Printed.{taken-printed}
 use Rattle.records.specs.Takes.{written}
 use Rattle.patch.specs.declared.Left.{Left}
 use Rattle.patch.specs.Completed.{Went, Completed}
@@ -47,11 +48,11 @@ not-full {full} {n} is left l = let other : ¬ (n ≡ 2 ^ 64 - 1) = eqb-false n 
 module _ {held : Held} {l : Left} (w : Went held l) where
   open Went w using (bytes, took)
 
-  pub went-sound : Sound (l .held)
+  pub went-sound : Sound (l .held .stock)
   went-sound = rw (took .is-held) (took .stepped .sound)
 
   pub went-turns : l .held .turns ≡ held .turns + 1
-  went-turns = ap (λ (h : Held). h .turns) (took .is-held) ∙ turns-next (took .stepped)
+  went-turns = ap (λ (h : Held). h .turns) (took .is-held) ∙ took .stepped .counted
 
   pub last : l .more ≡ false → Completed held l
   last m = record {

@@ -6,7 +6,7 @@ use Prim.Native.Nat.{ℕ, _+_, _≤_}
 use lib.ListN.{length}
 use Rattle.rules.specs.Patch.{size}
 use Rattle.records.specs.declared.Held.{Held}
-use Rattle.records.specs.Did.{Stepped}
+use Rattle.records.specs.Stepped.{Stepped}
 use Rattle.records.specs.Takes.{Call, Takes}
 use Rattle.patch.specs.declared.Left.{Left}
 

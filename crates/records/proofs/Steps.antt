@@ -1,15 +1,15 @@
 -- A record by its kind, and what can be held after it.
-use mathlib.Core.Path.{_≡_, refl, sym, ap, _∙_, subst}
+use mathlib.Core.Path.{_≡_, refl, sym, _∙_, subst}
 use mathlib.Core.Bool.{Bool, true, false, cond}
 use mathlib.Core.List.{List, [], _∷_}
-use Prim.Native.Nat.{ℕ, _+_}
+use Prim.Native.Nat.{ℕ}
 use native.Mathlib.Omega.{arith}
 use lib.Dec.{T, eqb}
 use lib.ListN.{length, getD}
 use borrow.Author.Tests.{eq-eqb, ne-eqb}
 use Rattle.rules.specs.Setting.{Setting}
 use Rattle.rules.specs.Patch.{
-  Held as Holding,
+  Held,
   nothing,
   set,
   ready,
@@ -31,14 +31,10 @@ use Rattle.rules.specs.Patch.{
   turn,
 }
 use Rattle.rules.proofs.Tests.{both, and, either}
-use Rattle.records.specs.declared.Done.{Done}
-use Rattle.records.specs.declared.Held.{Held}
-use Rattle.records.specs.Holding.{held-of, next-turn, possible, Sound}
-use Rattle.records.specs.Did.{Did, told-turn, Stepped}
-use Rattle.records.proofs.Holding.{sound}
-use Rattle.records.proofs.Turns.{did-as, did-at}
+use Rattle.kinds.specs.Holding.{possible}
+use Rattle.kinds.specs.Did.{told-turn}
 
-module _ (i j : ℕ) (held : Holding) (numbers : List ℕ) where
+module _ (i j : ℕ) (held : Held) (numbers : List ℕ) where
   whole-1 : j ≡ 1 → setting-turn i numbers ≡ whole i j held numbers
   unfolding whole
   whole-1 k = rw (eq-eqb j 1 k)
@@ -55,7 +51,7 @@ module _ (i j : ℕ) (held : Holding) (numbers : List ℕ) where
   unfolding whole
   whole-other x y z = rw (ne-eqb j 1 x, ne-eqb j 2 y, ne-eqb j 3 z)
 
-module _ (i : ℕ) (held : Holding) (b : List ℕ) where
+module _ (i : ℕ) (held : Held) (b : List ℕ) where
   pub turn-end : length b ≡ 0 → record { held = held; text = []; more = false } ≡ turn i held b
   unfolding turn
   turn-end z = go b z
@@ -110,19 +106,19 @@ points-possible i S numbers h = go (eqb (points-refusal S numbers) 0) refl
     go true e = and (eqb (setting-record-refusal S) 0) _ h (subst T (sym e) tt)
     go false e = h
 
-come-possible : (i : ℕ) (held : Holding) (numbers : List ℕ) → T (possible held) → T (possible (points-come i held numbers .held))
+come-possible : (i : ℕ) (held : Held) (numbers : List ℕ) → T (possible held) → T (possible (points-come i held numbers .held))
 unfolding points-come missing possible
 come-possible i nothing numbers h = h
 come-possible i (set S) numbers h = points-possible i S numbers h
 come-possible i (ready S points) numbers h = points-possible i S numbers (both (eqb (setting-record-refusal S) 0) _ h .0)
 
-word-possible : (i : ℕ) (held : Holding) (numbers : List ℕ) → T (possible held) → T (possible (word-comes i held numbers .held))
+word-possible : (i : ℕ) (held : Held) (numbers : List ℕ) → T (possible held) → T (possible (word-comes i held numbers .held))
 unfolding word-comes missing word-turn
 word-possible i nothing numbers h = h
 word-possible i (set S) numbers h = h
 word-possible i (ready S points) numbers h = h
 
-pub turn-possible : (i : ℕ) (held : Holding) (b : List ℕ) → T (possible held) → T (possible (turn i held b .held))
+pub turn-possible : (i : ℕ) (held : Held) (b : List ℕ) → T (possible held) → T (possible (turn i held b .held))
 unfolding turn whole
 turn-possible i held [] h = h
 turn-possible i held (x ∷ bytes) h =
@@ -134,7 +130,7 @@ turn-possible i held (x ∷ bytes) h =
     (λ _. either Fine _ _ (eqb (kind b) 3) (λ _. word-possible i held (body b) h) (λ _. h))))
 
 -- a turn that goes on has a whole record
-pub goes-on : (i : ℕ) (held : Holding) (b : List ℕ) → turn i held b .more ≡ true → broken b ≡ false
+pub goes-on : (i : ℕ) (held : Held) (b : List ℕ) → turn i held b .more ≡ true → broken b ≡ false
 unfolding turn
 goes-on i held [] m = absurd (subst T (sym m) tt)
 goes-on i held (x ∷ bytes) m = go (broken (x ∷ bytes)) refl
@@ -142,12 +138,3 @@ goes-on i held (x ∷ bytes) m = go (broken (x ∷ bytes)) refl
     go : (t : Bool) → broken (x ∷ bytes) ≡ t → broken (x ∷ bytes) ≡ false
     go true e = absurd (subst T (sym (rw e at m)) tt)
     go false e = e
-
--- a call that did this turn, which was next-turn, did the record's
-pub stepped : {held h : Held} {t : Turn} {bytes d e : List ℕ} {r : Done} → Sound held → h ≡ next-turn held → Did (h .turns) t d e r →
-    t ≡ turn (h .turns) (held-of h) bytes → Stepped held bytes d e r
-stepped {held} {h} {t} {bytes} {d} {e} {r} s is g q =
-    let n : h .turns ≡ held .turns + 1 = ap (λ (h : Held). h .turns) is in
-    let same : turn (h .turns) (held-of h) bytes ≡ turn (held .turns + 1) (held-of held) bytes = ap (λ (h : Held). turn (h .turns) (held-of h) bytes) is in
-    let did = did-at (did-as g (q ∙ same)) n in
-    record { sound = sound _ _ (did .held) (turn-possible (held .turns + 1) (held-of held) bytes (s .accepted)); did = did }

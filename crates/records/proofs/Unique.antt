@@ -4,12 +4,13 @@ use mathlib.Core.List.{List}
 use Prim.Native.Nat.{ℕ}
 use Rattle.records.specs.declared.Held.{Held}
 use Rattle.records.specs.declared.Done.{Done}
-use Rattle.records.specs.Did.{Stepped}
+use Rattle.records.specs.Stepped.{Stepped}
 
 pub one-outcome : {held : Held} {bytes d e e′ : List ℕ} {r r′ : Done} → Stepped held bytes d e r → Stepped held bytes d e′ r′ →
     (r ≡ r′) × (e ≡ e′)
 one-outcome {r = r} {r′ = r′} h g =
-    let held = h .did .held ∙ sym (g .did .held) in
+    let turns = h .counted ∙ sym (g .counted) in
+    let stock = h .did .held ∙ sym (g .did .held) in
     let wrote = h .did .text .next ∙ sym (g .did .text .next) in
     let more = h .did .more ∙ sym (g .did .more) in
-    (rw (held, wrote, more) refl, h .did .text .out ∙ sym (g .did .text .out))
+    (rw (turns, stock, wrote, more) refl, h .did .text .out ∙ sym (g .did .text .out))

@@ -7,7 +7,7 @@ use lib.ListN.{take, drop}
 use Rattle.rules.specs.Patch.{size}
 use Rattle.records.specs.declared.Held.{Held}
 use Rattle.records.specs.declared.Done.{Done}
-use Rattle.records.specs.Did.{Stepped}
+use Rattle.records.specs.Stepped.{Stepped}
 
 -- a call of step: what the buffer lent for its lines held before and after it, and what it answered
 pub record Call : Type 0 where

@@ -6,18 +6,14 @@ use borrow.Author.Needs.{needs}
 use Rattle.patch.proofs.take.Statement.{statement}
 use Rattle.patch.proofs.take.Tie as tie
 
-slice-aggregate-step : tie.Need-slice-aggregate-step
-slice-aggregate-step c = search needs
-
 step-requires : tie.Need-step-requires
 step-requires c κs = search needs
 
-array-share-prefix-out : tie.Need-array-share-prefix-out
-array-share-prefix-out c = search needs
-
 slice-aggregate-put : tie.Need-slice-aggregate-put
 slice-aggregate-put c =
-    let s = c .before .before .step in sym (length-take-le (s .result .wrote) (s .last .1 .1 .0) (omega (arith, s .ensures .did .within)))
+    let at-step = c .before .before .before in
+    let s = at-step .step in
+    sym (length-take-le (s .result .wrote) _ (omega (arith, s .ensures .did .within)))
 
 slice-aggregate-put-2 : tie.Need-slice-aggregate-put-2
 slice-aggregate-put-2 c = search needs
@@ -27,8 +23,10 @@ put-requires c κs = search needs
 
 returns : tie.Need-returns
 returns c =
-    let at-step = c .before .before .before .before .before in
-    let start = at-step .before .before .before in
+    let at-lines = c .before .before .before .before in
+    let at-step = at-lines .before .before in
+    let at-lent = at-step .before .before .before in
+    let start = at-lent .before .before .before in
     record {
       call = record { before = _; after = _; done = at-step .step .result };
       cut = start .pre .3;
@@ -40,11 +38,4 @@ returns c =
 pub take-spec : {M : Type 1} → statement M
 take-spec =
     tie.close
-    (tie.spec
-    slice-aggregate-step
-    step-requires
-    array-share-prefix-out
-    slice-aggregate-put
-    slice-aggregate-put-2
-    put-requires
-    returns)
+    (tie.spec step-requires slice-aggregate-put slice-aggregate-put-2 put-requires returns)

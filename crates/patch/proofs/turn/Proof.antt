@@ -25,7 +25,8 @@ slice-aggregate-take c =
 
 take-requires : tie.Need-take-requires
 take-requires c κs =
-    let at-read = c .before .before .before in
+    let at-lent = c .before .before .before .before in
+    let at-read = at-lent .before .before .before in
     let start = at-read .before .before in
     let read = at-read .read-record in
     let long = length-take-le (read .result .count) (read .last .0) (omega arith) in
