@@ -76,7 +76,7 @@ module _ (O : Ops) (L : Laws O) where
       tall = step-tall O L g n (rows W n s) (λ t i l. cell-length O L (rows W n s) t i (omega (arith, rows-length W n s)))
 
       -- while symbols are left after g, nothing is cut off
-      next-cells : (k : ℕ) → Within O (suc k) W (rows W n s) → cell O (rows W n r) ≡ cell O (next O g (rows W n s))
+      pub next-cells : (k : ℕ) → Within O (suc k) W (rows W n s) → cell O (rows W n r) ≡ cell O (next O g (rows W n s))
       next-cells k w =
           e ∙ stripped-cells O L _ _ (rows-cells O L W n p (step O g (rows W n s)) h tall (λ t i l. step-within O L g k W (rows W n s) w t i (omega arith)))
 

@@ -14,7 +14,7 @@ use Rattle.rules.specs.Search.{roots, listed}
 use Rattle.rules.specs.Outcome.{over}
 use Rattle.algebra.proofs.Complete.{messages-long}
 use Rattle.search.specs.Search.{Asked, Roots-left, roots-of, none}
-use Rattle.search.specs.declared.Tally.{Tally}
+use Rattle.roots.specs.declared.Tally.{Tally}
 use Rattle.engine.specs.Word.{Listable, scoring-roots}
 use Rattle.sift.specs.Sift.{Scorable, enough}
 use Rattle.demands.proofs.Passing.{passing-parts}

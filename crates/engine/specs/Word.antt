@@ -12,7 +12,7 @@ use Rattle.rules.specs.Search.{rows, beginnings, listed}
 use Rattle.rules.specs.Refusal.{under}
 use Rattle.rules.specs.Outcome.{over}
 use Rattle.weights.specs.Shape.{Shaped}
-use Rattle.search.specs.declared.Tally.{Tally}
+use Rattle.roots.specs.declared.Tally.{Tally}
 
 -- the numbers of an accepted setting, and a word with as many points
 pub record Worded (q k w l s : ℕ) (points word : List ℕ) : Type 0 where

@@ -10,7 +10,7 @@ ghost use Rattle.rules.specs.Curve.{passes};
 ghost use Rattle.rules.specs.Refusal.{under};
 ghost use Rattle.engine.specs.Word.{Worded, Findable, Curve-left, Listable, Listed, Readable};
 use runs::clear;
-use search::Tally;
+use roots::Tally;
 use search::search;
 use sift::sift;
 

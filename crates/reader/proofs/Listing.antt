@@ -14,7 +14,7 @@ use Rattle.rules.specs.Curve.{passes}
 use Rattle.rules.specs.Setting.{Setting}
 use Rattle.rules.specs.Refusal.{Cause, _if_, _of_, lowest, symbol-causes, point-causes, curve-causes, fits, list-refusal}
 use Rattle.rules.specs.Outcome.{over, list-call}
-use Rattle.search.specs.declared.Tally.{Tally}
+use Rattle.roots.specs.declared.Tally.{Tally}
 use Rattle.reader.specs.declared.Outcome.{Outcome}
 use Rattle.terms.specs.declared.Terms.{Terms}
 use Rattle.terms.specs.Terms.{Settled, Posed}

@@ -10,7 +10,7 @@ use borrow.Rule.Slice.PartMut.{midOf, putMid}
 use Rattle.rules.specs.Setting.{Setting}
 use Rattle.rules.specs.Refusal.{_if_, _of_, lowest, point-causes, word-causes, read-refusal}
 use Rattle.rules.specs.Outcome.{over, read-call, Reads}
-use Rattle.search.specs.declared.Tally.{Tally}
+use Rattle.roots.specs.declared.Tally.{Tally}
 use Rattle.reader.specs.declared.Outcome.{Outcome}
 use Rattle.terms.specs.declared.Terms.{Terms}
 use Rattle.terms.specs.Terms.{Settled, Posed}

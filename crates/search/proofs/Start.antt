@@ -13,11 +13,11 @@ use Rattle.rules.specs.Curve.{weighted}
 use Rattle.rules.specs.Field.{Ops, ops, modulus}
 use Rattle.rules.specs.Outcome.{over}
 use Rattle.rules.specs.Search.{rows, stripped, beginnings, roots}
-use Rattle.algebra.specs.Search.{found, tried, Within}
+use Rattle.algebra.specs.Search.{found, tried, Within, Headed}
 use Rattle.algebra.proofs.Lists.{map-rows}
 use Rattle.algebra.proofs.Bridge.{zeros-hom, weighted-hom, stripped-hom, beginnings-hom}
 use Rattle.algebra.proofs.Search.{found-hom, tried-hom, found-roots, tried-beginnings}
-use Rattle.algebra.proofs.Alive.{roots-few, beginnings-few}
+use Rattle.algebra.proofs.Alive.{curve-headed, roots-few, beginnings-few}
 use Rattle.algebra.proofs.Slot.{rows-within}
 use Rattle.prime.specs.Field.{value, elt, field}
 use Rattle.prime.proofs.Below.{modulus-two}
@@ -28,16 +28,19 @@ use borrow.Rule.Slice.PartMut.{putMid, same-len-mid}
 use Rattle.buffers.specs.Change.{Changed}
 use Rattle.buffers.proofs.Change.{changed-list}
 use Rattle.buffers.proofs.Part.{len-mid, put-mid}
-use Rattle.search.specs.declared.Sizes.{Sizes}
-use Rattle.search.specs.declared.Tally.{Tally}
-use Rattle.search.specs.Slot.{run, curve, Slot-stripped}
-use Rattle.search.specs.Search.{found-at, tried-at, listed, Asked, Curve-searched, Roots-left, Search-ready, Searched, roots-of, tried-of, none}
-use Rattle.search.proofs.Heads.{run-at, run-front}
-use Rattle.search.proofs.Numbers.{rows-values}
-use Rattle.search.proofs.Next.{strip-found, strip-tried, strip-within, within-values}
-use Rattle.search.proofs.Nexted.{shifted, strip-low}
-use Rattle.search.proofs.Roots.{written-to}
-use Rattle.search.proofs.Walked.{long}
+use Rattle.roots.specs.declared.Sizes.{Sizes}
+use Rattle.roots.specs.declared.Tally.{Tally}
+use Rattle.followers.specs.Slot.{run, curve}
+use Rattle.lengthening.specs.Lengthened.{Slot-stripped}
+use Rattle.roots.specs.Ready.{found-at, tried-at, listed, Search-ready}
+use Rattle.search.specs.Search.{Asked, Curve-searched, Roots-left, roots-of, tried-of, none}
+use Rattle.beginnings.specs.Searched.{Searched}
+use Rattle.followers.proofs.Heads.{run-at, run-front}
+use Rattle.lengthening.proofs.Numbers.{rows-values}
+use Rattle.lengthening.proofs.Longer.{strip-found, strip-tried, strip-within, strip-live, within-values}
+use Rattle.lengthening.proofs.Lengthened.{shifted, strip-low}
+use Rattle.followers.proofs.Written.{written-to}
+use Rattle.beginnings.proofs.Walked.{long}
 
 listed-empty : (fs : List (List ℕ)) → listed [] fs ≡ flatten fs
 unfolding listed flatten
@@ -77,6 +80,9 @@ module _ (q : ℕ) (m : T (modulus q)) (k w l : ℕ) (c : List ℕ) (o : 0 < w) 
   module _ (live : T (not (zeros (ops q) c))) where
     live-elts : T (not (zeros F (map e c)))
     live-elts = rw (← zeros-hom (ops q) F e (elt-hom q m h) c) live
+
+    headed : Headed F l (stripped F (rows w (l + 1) (map e c)))
+    headed = curve-headed F (laws q m h) w l (map e c) o (length-map c e ∙ long) live-elts
 
     few : 1 ≤ k → length (roots (ops q) k Q) ≤ l
     few s =
@@ -149,6 +155,8 @@ module _ {q k w l : ℕ} {c d z : List ℕ} {t : Tally} (asked : Asked q k w l c
     low = λ j m. rw (← run-at S S d₂ j m) (low-r j m);
     within = strip-within q (asked .field) w (l + 1) (run 0 S d₁) (run S S d₂) low-p low-r (shifted w l S d₁ d₂ st) (k - 1)
         (rw spare (inside q (asked .field) k w l c (asked .wide) (asked .long) low (asked .fits)));
+    live = λ _. strip-live q (asked .field) w (l + 1) (run 0 S d₁) (run S S d₂) low-p low-r (shifted w l S d₁ d₂ st) l
+        (rw spare (headed q (asked .field) k w l c (asked .wide) (asked .long) low (asked .live)));
     beginning = fits;
     room = omega (
       arith,

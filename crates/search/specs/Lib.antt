@@ -1,3 +1,2 @@
--- The definitions of the crate, each file after those that it rests on.
-pub mod Slot
+-- The definitions of the crate.
 pub mod Search

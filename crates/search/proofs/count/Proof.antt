@@ -44,10 +44,10 @@ use denote.Triple.Table.{entered, cited}
 use denote.Triple.Walked.{says, needs, Stays, stay-none, gave-slice, walkOf, goes-none, goes-gave-slice, Walks, ends-at, walked, walk-meets}
 use denote.Exit.{yes}
 use denote.Signature.{plain}
-use Rattle.search.specs.declared.Tally.{Tally}
+use Rattle.roots.specs.declared.Tally.{Tally}
 use Rattle.search.specs.Search.{Asked, Curve-searched as Done, spare, none}
-use Rattle.search.proofs.Tally as T
-use Rattle.search.proofs.Tally.Laws as T′
+use Rattle.roots.proofs.Tally as T
+use Rattle.roots.proofs.Tally.Laws as T′
 use Rattle.search.proofs.tally_into as tally-into
 use Rattle.search.proofs.tally_into.Symbol as tally-into-def
 use Rattle.search.proofs.tally_into.Symbol.{name as #search·tally-into}

@@ -1,7 +1,7 @@
 -- run: the curve of the spare is stripped into the first slot behind it, where the visit starts.
 use mathlib.Core.Path.{refl, sym}
 use Prim.Native.Nat.{_+_, _*_}
-use Rattle.search.proofs.Heads.{run-front}
+use Rattle.followers.proofs.Heads.{run-front}
 use Rattle.search.proofs.Start.{started, given}
 use native.Mathlib.Omega.{arith}
 use borrow.Author.Needs.{needs}

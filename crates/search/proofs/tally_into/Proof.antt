@@ -42,10 +42,10 @@ use denote.Triple.Table.{entered, cited}
 use denote.Triple.Walked.{says, needs, Stays, stay-ref, stay-none, gave-slice, walkOf, goes-ref, goes-none, goes-gave-slice, Walks, ends-at, walked, walk-meets}
 use denote.Exit.{yes}
 use denote.Signature.{plain}
-use Rattle.search.specs.declared.Tally.{Tally}
+use Rattle.roots.specs.declared.Tally.{Tally}
 use Rattle.search.specs.Search.{Asked, Curve-searched as Done, spare}
-use Rattle.search.proofs.Tally as T
-use Rattle.search.proofs.Tally.Laws as T′
+use Rattle.roots.proofs.Tally as T
+use Rattle.roots.proofs.Tally.Laws as T′
 use Rattle.search.proofs.run as run-fn
 use Rattle.search.proofs.run.Symbol as run-def
 use Rattle.search.proofs.run.Symbol.{name as #search·run}
