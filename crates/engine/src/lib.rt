@@ -9,8 +9,8 @@ ghost use Rattle.rules.specs.Code.{triples};
 ghost use Rattle.rules.specs.Curve.{passes};
 ghost use Rattle.rules.specs.Refusal.{under};
 ghost use Rattle.engine.specs.Word.{Worded, Findable, Curve-left, Listable, Listed, Readable};
-use runs::clear;
 use roots::Tally;
+use runs::clear;
 use search::search;
 use sift::sift;
 
