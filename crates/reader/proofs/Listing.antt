@@ -18,7 +18,7 @@ use Rattle.roots.specs.declared.Tally.{Tally}
 use Rattle.reader.specs.declared.Outcome.{Outcome}
 use Rattle.terms.specs.declared.Terms.{Terms}
 use Rattle.terms.specs.Terms.{Settled, Posed}
-use Rattle.reader.specs.Calls.{listing, nothing}
+use Rattle.reader.specs.Calls.{listing, nothing, counts}
 use Rattle.engine.specs.Word.{Listable, Listed}
 use Rattle.refusals.proofs.Answers.{holds, fails}
 use Rattle.terms.proofs.First.{setting-refuses, others-decide}
@@ -99,16 +99,18 @@ module _ {S : Setting} {t : Terms} {points word Q output work : List ℕ} {numbe
           settled.listable (h .settled) (g .given) (rw (holds e fit) tt) (g .output-fits) (length-front _ _ (g .work-fits))
 
       -- the lent front of work is back
-      pub list-accepted : {output′ front : List ℕ} {r : Tally}
-          → Listed (t .q) (S .k) (t .w) (t .l) (t .s) points word Q output (midOf 0 (t .room - 0) work) output′ front r
-          → listing 0 (r .found) (r .tried) output′ (putMid 0 (t .room - 0) work front) ≡ list-call S points word Q output work
+      pub list-accepted : {output′ front : List ℕ} {tally : Tally}
+          → Listed (t .q) (S .k) (t .w) (t .l) (t .s) points word Q output (midOf 0 (t .room - 0) work) output′ front tally
+          → {r : Outcome} → r ≡ counts tally
+          → listing (r .refusal) (r .found) (r .tried) output′ (putMid 0 (t .room - 0) work front) ≡ list-call S points word Q output work
       unfolding list-call
-      list-accepted o =
+      list-accepted o is =
           let passing = holds (e ∙ settled.fits-is (h .settled) points word Q) fit in
           let accepted = later 9 _ [] (ap not passing) lowest-none ∙ h .nine none in
           let same = settled.list-is (h .settled) points word Q in
           let clear = cleared-front (t .room) work (h .granted none .work-fits) (o .cleared) in
           rw (
+            is,
             ← accepted,
             o .found ∙ ap length same,
             o .tried ∙ settled.tried-is (h .settled) points word Q,

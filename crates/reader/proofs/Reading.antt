@@ -14,7 +14,7 @@ use Rattle.roots.specs.declared.Tally.{Tally}
 use Rattle.reader.specs.declared.Outcome.{Outcome}
 use Rattle.terms.specs.declared.Terms.{Terms}
 use Rattle.terms.specs.Terms.{Settled, Posed}
-use Rattle.reader.specs.Calls.{reading, nothing}
+use Rattle.reader.specs.Calls.{reading, nothing, counts}
 use Rattle.engine.specs.Word.{Readable, Curve-left, Listed}
 use Rattle.terms.proofs.First.{setting-refuses, others-decide}
 use Rattle.rules.proofs.Given.{Given, given, point-named}
@@ -83,18 +83,18 @@ module _ {S : Setting} {t : Terms} {points word output curve work : List ℕ} {n
         settled.readable (h .settled) (g .given) (g .output-fits) (length-front _ _ (g .curve-fits)) (length-front _ _ (g .work-fits))
 
     -- the lent fronts of curve and work are back
-    pub read-accepted : {output′ Q front : List ℕ} {r : Tally}
+    pub read-accepted : {output′ Q front : List ℕ} {tally : Tally}
         → Curve-left (t .q) (S .k) (t .w) (t .l) (t .s) points word Q (midOf 0 (t .room - 0) work) front
-        → Listed (t .q) (S .k) (t .w) (t .l) (t .s) points word Q output (midOf 0 (t .room - 0) work) output′ front r
-        → let curve′ = putMid 0 (t .size - 0) curve Q in let work′ = putMid 0 (t .room - 0) work front in
-        Reads S points word output curve work (reading 0 (r .found) (r .tried) output′ curve′ work′)
+        → Listed (t .q) (S .k) (t .w) (t .l) (t .s) points word Q output (midOf 0 (t .room - 0) work) output′ front tally
+        → {r : Outcome} → r ≡ counts tally → let curve′ = putMid 0 (t .size - 0) curve Q in let work′ = putMid 0 (t .room - 0) work front in
+        Reads S points word output curve work (reading (r .refusal) (r .found) (r .tried) output′ curve′ work′)
     unfolding read-call
-    read-accepted {Q = Q} f o =
+    read-accepted {Q = Q} f o is =
         let whole = f .whole ∙ sym (settled.size-is (h .settled)) in
         let used-again = used-over S Q curve (whole ∙ h .settled .is-size) in
         let same = settled.list-is (h .settled) points word Q in
         let clear = cleared-front (t .room) work (h .granted none .work-fits) (f .cleared) in
-        rw (over-front (t .size) curve Q whole, clear, h .settled .is-R) (record {
+        rw (is, over-front (t .size) curve Q whole, clear, h .settled .is-R) (record {
           passes = λ z. rw used-again (settled.usable-is (h .settled) points word Q (f .whole) (f .small) (f .passing));
           rest = rw used-again (rw (
             ← h .is,

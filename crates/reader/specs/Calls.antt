@@ -3,6 +3,7 @@ use mathlib.Core.Bool.{Bool}
 use mathlib.Core.List.{List}
 use Prim.Native.Nat.{ℕ}
 use Rattle.rules.specs.Outcome.{Encoded, Checked, Finding, Listing, Reading}
+use Rattle.search.specs.declared.Tally.{Tally}
 use Rattle.reader.specs.declared.Outcome.{Outcome}
 
 abbrev pub encoded : ℕ → List ℕ → Encoded
@@ -30,3 +31,7 @@ reading refusal found tried output curve work = record {
 -- what is answered where nothing is listed: the refusal number, or 0 of finding
 abbrev pub nothing : ℕ → Outcome
 nothing number = record { refusal = number; found = 0; tried = 0 }
+
+-- .. and where a list was made: its length, and the beginnings tried
+abbrev pub counts : Tally → Outcome
+counts tally = record { refusal = 0; found = tally .found; tried = tally .tried }

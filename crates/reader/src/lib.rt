@@ -3,8 +3,9 @@
 ghost use mathlib.Core.Path.{_≡_};
 ghost use Rattle.rules.specs.Outcome.{encode-call, check-call, list-call, Finds, Reads};
 ghost use Rattle.setting.specs.Call.{asked};
-ghost use Rattle.reader.specs.Calls.{encoded, checked, finding, listing, reading, nothing};
+ghost use Rattle.reader.specs.Calls.{encoded, checked, finding, listing, reading, nothing, counts};
 use refusals::slices;
+use search::Tally;
 
 // What the check answers: the refusal number or 0, and yes or no, which is no where it refuses.
 pub struct Checked {
@@ -84,6 +85,17 @@ fn empty(number: u16) -> Outcome
     }
 }
 
+// The answer of an accepted call that lists: what the engine counted.
+fn counted(tally: Tally) -> Outcome
+    ensures { λ r. ⌜ r ≡ counts tally ⌝ }
+{
+    Outcome {
+        refusal: 0,
+        found: tally.found,
+        tried: tally.tried,
+    }
+}
+
 // Writes a curve that passes for the word to the front of the curve buffer.
 pub fn find(
     p: usize,
@@ -151,7 +163,7 @@ pub fn list(
     if !engine::fits(t.q, k, t.w, t.l, t.s, points, word, curve) {
         return empty(9);
     }
-    let tally = engine::list(
+    counted(engine::list(
         t.q,
         k,
         t.w,
@@ -162,12 +174,7 @@ pub fn list(
         curve,
         output,
         &mut work[0..room],
-    );
-    Outcome {
-        refusal: 0,
-        found: tally.found,
-        tried: tally.tried,
-    }
+    ))
 }
 
 // Reading: finding, then listing. The curve buffer's front holds the curve used.
@@ -196,7 +203,7 @@ pub fn read(
     if number != 0 {
         return empty(number);
     }
-    let tally = engine::read(
+    counted(engine::read(
         t.q,
         k,
         t.w,
@@ -207,10 +214,5 @@ pub fn read(
         output,
         &mut curve[0..size],
         &mut work[0..room],
-    );
-    Outcome {
-        refusal: 0,
-        found: tally.found,
-        tried: tally.tried,
-    }
+    ))
 }

@@ -77,6 +77,9 @@ list-requires c κs =
     let b = c .before .before .before in
     listable (tested (b .before .before)) (b .before .if2 .left) (b .fits2 .ensures) (c .before .before .if3 .left)
 
+counted-requires : tie.Need-counted-requires
+counted-requires c κs = search needs
+
 same-length : tie.Need-same-length
 same-length c = search needs
 
@@ -85,9 +88,10 @@ same-length-2 c = search needs
 
 returns-4 : tie.Need-returns-4
 returns-4 c =
-    let e = c .before .before .before .before in
+    let e = c .before .before .before .before .before in
     let b = passing e .before in
     list-accepted (tested (b .before .before)) (b .before .if2 .left) (b .fits2 .ensures) (passing e .if3 .left) (e .list .ensures)
+    (c .counted .ensures)
 
 pub list-spec : {M : Type 1} → statement M
 list-spec =
@@ -107,6 +111,7 @@ list-spec =
     part-list-start
     part-list-end
     list-requires
+    counted-requires
     same-length
     same-length-2
     returns-4)

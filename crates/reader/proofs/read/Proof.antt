@@ -68,6 +68,9 @@ part-read-end-2 c = omega (arith, tested (c .before .before .before) .granted (c
 read-requires : tie.Need-read-requires
 read-requires c κs = readable (tested (c .before .before .before .before)) (c .before .before .before .if2 .left)
 
+counted-requires : tie.Need-counted-requires
+counted-requires c κs = search needs
+
 same-length : tie.Need-same-length
 same-length c = search needs
 
@@ -79,9 +82,9 @@ same-length-3 c = search needs
 
 returns-3 : tie.Need-returns-3
 returns-3 c =
-    let at-curve = c .before .before .before in
+    let at-curve = c .before .before .before .before in
     let e = at-curve .before .before .before in
-    read-accepted (tested (accepted e .before)) (accepted e .if2 .left) (e .read .ensures .0) (e .read .ensures .1)
+    read-accepted (tested (accepted e .before)) (accepted e .if2 .left) (e .read .ensures .0) (e .read .ensures .1) (c .counted .ensures)
 
 pub read-spec : {M : Type 1} → statement M
 read-spec =
@@ -101,6 +104,7 @@ read-spec =
     part-read-start-2
     part-read-end-2
     read-requires
+    counted-requires
     same-length
     same-length-2
     same-length-3
