@@ -1,9 +1,9 @@
 -- take_word: 12 where no points are held, before the body is read.
 use Rattle.kinds.proofs.Turns.{did-as}
-use Rattle.kinds.proofs.Answered.{word-nothing, word-set}
+use Rattle.words.proofs.Answered.{word-nothing, word-set}
 use borrow.Author.Needs.{needs}
-use Rattle.kinds.proofs.words.take_word.Statement.{statement}
-use Rattle.kinds.proofs.words.take_word.Tie as tie
+use Rattle.words.proofs.take_word.Statement.{statement}
+use Rattle.words.proofs.take_word.Tie as tie
 
 enum-told : tie.Need-enum-told
 enum-told c = search needs

@@ -1,13 +1,13 @@
 -- read_word: the line, and then a line for each reading.
 use mathlib.Core.Path.{refl, _∙_}
 use Rattle.text.proofs.Written.{wrote-len}
 use Rattle.kinds.proofs.Turns.{did-as, body-front}
 use Rattle.bodies.proofs.Lines.{lines-room}
-use Rattle.kinds.proofs.Answered.{heard-as, word-refused, word-heard, word-ready, held-ready, accepted-ready, clean-ready}
+use Rattle.words.proofs.Answered.{heard-as, word-refused, word-heard, word-ready, held-ready, accepted-ready, clean-ready}
 use native.Mathlib.Omega.{arith}
 use borrow.Author.Needs.{needs}
-use Rattle.kinds.proofs.words.read_word.Statement.{statement}
-use Rattle.kinds.proofs.words.read_word.Tie as tie
+use Rattle.words.proofs.read_word.Statement.{statement}
+use Rattle.words.proofs.read_word.Tie as tie
 
 -- the places that answers look back to: the start from the body, and the answer of read_held from what came of it
 abbrev entry : tie.After-read-body → tie.Start
