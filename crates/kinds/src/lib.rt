@@ -3,7 +3,7 @@ ghost use mathlib.Core.Path.{_≡_};
 ghost use Prim.Native.Nat.{_≤_};
 ghost use lib.ListN.{length};
 ghost use Rattle.rules.specs.Patch.{nothing, set};
-ghost use Rattle.bodies.specs.Heard.{setting-of};
+ghost use Rattle.bodies.specs.Setting.{setting-of};
 ghost use Rattle.kinds.specs.Holding.{held-of, stock, with-array, Clean};
 ghost use Rattle.kinds.specs.Did.{Did, told-turn};
 

@@ -11,7 +11,8 @@ use Rattle.rules.specs.Search.{rows}
 use Rattle.rules.specs.Patch.{Held, ready, digits, line, setting-record-refusal, points-refusal, word-refusal, word-turn, missing, word-comes}
 use Rattle.text.specs.Wrote.{Wrote}
 use Rattle.text.proofs.Written.{wrote-then, wrote-as}
-use Rattle.bodies.specs.Heard.{setting-of, Heard, messages-of}
+use Rattle.bodies.specs.Setting.{setting-of}
+use Rattle.bodies.specs.Heard.{Heard, messages-of}
 use Rattle.bodies.proofs.Lines.{plus-lines}
 use Rattle.kinds.specs.declared.Stock.{Stock}
 use Rattle.kinds.specs.declared.Stage.the-variants.{Nothing, Set, Ready}

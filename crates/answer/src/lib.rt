@@ -2,7 +2,7 @@
 ghost use mathlib.Core.Path.{_≡_};
 ghost use mathlib.Core.List.{[], _∷_};
 ghost use lib.ListN.{set};
-ghost use Rattle.whitebeamish.specs.Told.{told};
+ghost use Rattle.answer.specs.Told.{told};
 
 // Writes x at place i, if the answer has one.
 fn put(answer: &mut [usize], i: usize, x: usize)

@@ -3,7 +3,7 @@ use mathlib.Core.Path.{_≡_, refl}
 use mathlib.Core.List.{List, [], _∷_}
 use Prim.Native.Nat.{ℕ}
 use lib.ListN.{set}
-use Rattle.whitebeamish.specs.Told.{told}
+use Rattle.answer.specs.Told.{told}
 
 pub told-one : (answer : List ℕ) (a : ℕ) → set answer 0 a ≡ told (a ∷ []) answer
 unfolding told

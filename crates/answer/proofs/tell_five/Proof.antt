@@ -1,8 +1,8 @@
 -- tell_five: the stores are the results told.
-use Rattle.whitebeamish.proofs.Told.{told-five}
+use Rattle.answer.proofs.Told.{told-five}
 use borrow.Author.Needs.{needs}
-use Rattle.whitebeamish.proofs.answer.tell_five.Statement.{statement}
-use Rattle.whitebeamish.proofs.answer.tell_five.Tie as tie
+use Rattle.answer.proofs.tell_five.Statement.{statement}
+use Rattle.answer.proofs.tell_five.Tie as tie
 
 put-requires : tie.Need-put-requires
 put-requires c κs = search needs

@@ -5,11 +5,11 @@ use Prim.Native.Nat.{_+_, _-_}
 use lib.ListN.{length-append}
 use lib.Seq.{length-take-le}
 use borrow.Rule.Slice.PartMut.{postOf}
-use Rattle.patch.proofs.Runs.{record-cut}
+use Rattle.input.proofs.Cut.{record-cut}
 use native.Mathlib.Omega.{arith}
 use borrow.Author.Needs.{needs}
-use Rattle.patch.proofs.read_record.Statement.{statement}
-use Rattle.patch.proofs.read_record.Tie as tie
+use Rattle.input.proofs.read_record.Statement.{statement}
+use Rattle.input.proofs.read_record.Tie as tie
 
 sub-fill : tie.Need-sub-fill
 sub-fill c = search needs
@@ -29,7 +29,7 @@ slice-reshare-prefix-want c = search needs
 slice-aggregate-want : tie.Need-slice-aggregate-want
 slice-aggregate-want c =
     let at-first = c .before .before .before in
-    let start = at-first .before .before .before .before .before in
+    let start = at-first .before .before .before .before in
     let all = at-first .fill .last .0 ++ postOf 0 2 (start .args .all .now) in
     sym (length-take-le (at-first .fill .result .count) all (simp length-append (omega arith)))
 
@@ -51,8 +51,8 @@ part-fill-end-2 c = search needs
 fill-requires-2 : tie.Need-fill-requires-2
 fill-requires-2 c κs = search needs
 
-add-t10 : tie.Need-add-t10
-add-t10 c = search needs
+add-t9 : tie.Need-add-t9
+add-t9 c = search needs
 
 same-length : tie.Need-same-length
 same-length c = search needs
@@ -60,9 +60,9 @@ same-length c = search needs
 returns : tie.Need-returns
 returns c =
     let at-rest = c .before .before .before .before .before in
-    let at-want = at-rest .before .before .before in
+    let at-want = at-rest .before .before in
     let at-first = at-want .before .before .before .before in
-    let start = at-first .before .before .before .before .before in
+    let start = at-first .before .before .before .before in
     let all = at-first .fill .last .0 ++ postOf 0 2 (start .args .all .now) in
     let want = at-want .want .result in
     let rest = at-rest .fill2 .result .count in (
@@ -87,6 +87,6 @@ read-record-spec =
     part-fill-start-2
     part-fill-end-2
     fill-requires-2
-    add-t10
+    add-t9
     same-length
     returns)

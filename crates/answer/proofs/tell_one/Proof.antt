@@ -1,9 +1,9 @@
 -- tell_one: the store is the result told.
 use mathlib.Core.Path.{_∙_}
-use Rattle.whitebeamish.proofs.Told.{told-one}
+use Rattle.answer.proofs.Told.{told-one}
 use borrow.Author.Needs.{needs}
-use Rattle.whitebeamish.proofs.answer.tell_one.Statement.{statement}
-use Rattle.whitebeamish.proofs.answer.tell_one.Tie as tie
+use Rattle.answer.proofs.tell_one.Statement.{statement}
+use Rattle.answer.proofs.tell_one.Tie as tie
 
 put-requires : tie.Need-put-requires
 put-requires c κs = search needs

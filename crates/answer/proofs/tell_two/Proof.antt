@@ -1,8 +1,8 @@
 -- tell_two: the stores are the results told.
-use Rattle.whitebeamish.proofs.Told.{told-two}
+use Rattle.answer.proofs.Told.{told-two}
 use borrow.Author.Needs.{needs}
-use Rattle.whitebeamish.proofs.answer.tell_two.Statement.{statement}
-use Rattle.whitebeamish.proofs.answer.tell_two.Tie as tie
+use Rattle.answer.proofs.tell_two.Statement.{statement}
+use Rattle.answer.proofs.tell_two.Tie as tie
 
 put-requires : tie.Need-put-requires
 put-requires c κs = search needs

@@ -2,8 +2,8 @@
 use mathlib.Core.Path.{sym}
 use lib.Seq.{set-out}
 use borrow.Author.Needs.{needs}
-use Rattle.whitebeamish.proofs.answer.put.Statement.{statement}
-use Rattle.whitebeamish.proofs.answer.put.Tie as tie
+use Rattle.answer.proofs.put.Statement.{statement}
+use Rattle.answer.proofs.put.Tie as tie
 
 mul-answer : tie.Need-mul-answer
 mul-answer c = search needs
