@@ -1,4 +1,4 @@
--- The setting of a record, and what is said of a word that was read with what is held.
+-- What is said of a word that was read with what is held.
 use mathlib.Core.Path.{_≡_}
 use mathlib.Core.List.{List}
 use Prim.Native.Nat.{ℕ, _-_, _*_, _≤_}
@@ -8,11 +8,6 @@ use Rattle.rules.specs.Code.{readings}
 use Rattle.rules.specs.Setting.{Setting}
 use Rattle.rules.specs.Search.{rows}
 use Rattle.rules.specs.Patch.{word-refusal}
-use Rattle.bodies.specs.declared.Setting.{Setting as Struct}
-
--- the setting of a record
-abbrev pub setting-of : Struct → Setting
-setting-of s = record { p = s .p; n = s .n; k = s .k; s = s .s; τ = s .tau }
 
 -- the readings of the word
 abbrev pub messages-of : Setting → List ℕ → List ℕ → List (List ℕ)

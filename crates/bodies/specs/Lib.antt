@@ -1,2 +1,3 @@
 -- The definitions of the crate.
+pub mod Setting
 pub mod Heard

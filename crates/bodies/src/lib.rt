@@ -6,7 +6,8 @@ ghost use lib.ListN.{length, take};
 ghost use Rattle.rules.specs.Patch.{line, body, setting-in, setting-record-refusal, points-refusal};
 ghost use Rattle.rules.specs.Search.{rows};
 ghost use Rattle.text.specs.Wrote.{Wrote};
-ghost use Rattle.bodies.specs.Heard.{setting-of, Heard};
+ghost use Rattle.bodies.specs.Setting.{setting-of};
+ghost use Rattle.bodies.specs.Heard.{Heard};
 
 // "Kind 1: p, n, k, s, τ"
 pub struct Setting {

@@ -24,7 +24,7 @@ use Rattle.rules.specs.Patch.{
 }
 use Rattle.parsing.specs.Body.{Bodied}
 use Rattle.bodies.specs.declared.Setting.{Setting as Struct}
-use Rattle.bodies.specs.Heard.{setting-of}
+use Rattle.bodies.specs.Setting.{setting-of}
 use Rattle.bodies.proofs.Refused.{points-given}
 use Rattle.kinds.specs.declared.Done.{Done}
 use Rattle.kinds.specs.declared.Stock.{Stock}

@@ -5,10 +5,9 @@ use mathlib.Core.List.{List, _++_}
 use Prim.Native.Nat.{ℕ, _-_}
 use lib.Dec.{T, eqb}
 use lib.ListN.{length, take, replicate}
-use Rattle.rules.specs.Setting.{Setting as Rule}
 use Rattle.rules.specs.Patch.{Held, nothing, set, ready, setting-record-refusal, points-refusal}
 use Rattle.bodies.specs.declared.Setting.{Setting}
-use Rattle.bodies.specs.Heard.{setting-of}
+use Rattle.bodies.specs.Setting.{setting-of, struct-of}
 use Rattle.kinds.specs.declared.Stage.{Stage}
 use Rattle.kinds.specs.declared.Stage.the-variants.{Nothing, Set, Ready}
 use Rattle.kinds.specs.declared.Stock.{Stock}
@@ -21,10 +20,6 @@ at-stage Ready s points = ready (setting-of s) (take (s .n) points)
 
 abbrev pub held-of : Stock → Held
 held-of h = at-stage (h .stage) (h .setting) (h .points)
-
--- the struct of a setting
-abbrev pub struct-of : Rule → Setting
-struct-of S = record { p = S .p; n = S .n; k = S .k; s = S .s; tau = S .τ }
 
 -- a setting with the points in front of this array
 abbrev pub with-array : Setting → List ℕ → Stock

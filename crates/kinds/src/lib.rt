@@ -1,15 +1,14 @@
-// The three kinds of a patch file's records: what each leaves held of what was, and what is printed for it.
+// What is held from one record of a patch file to the next, the line of a record, and the two kinds that change what is held: settings and points.
 ghost use mathlib.Core.Path.{_≡_};
 ghost use Prim.Native.Nat.{_≤_};
 ghost use lib.ListN.{length};
 ghost use Rattle.rules.specs.Patch.{nothing, set};
-ghost use Rattle.bodies.specs.Heard.{setting-of};
+ghost use Rattle.bodies.specs.Setting.{setting-of};
 ghost use Rattle.kinds.specs.Holding.{held-of, stock, with-array, Clean};
 ghost use Rattle.kinds.specs.Did.{Did, told-turn};
 
 pub mod points;
 pub mod settings;
-pub mod words;
 
 // How much is held.
 pub enum Stage {
@@ -20,9 +19,9 @@ pub enum Stage {
 
 // What is held: the setting from stage Set on, and at stage Ready the points, which are the first n. All else is zero.
 pub struct Stock {
-    stage: Stage,
-    setting: bodies::Setting,
-    points: [u16; 64],
+    pub stage: Stage,
+    pub setting: bodies::Setting,
+    pub points: [u16; 64],
 }
 
 // What comes of a record: what is held then, how many bytes were written, and whether the program goes on.

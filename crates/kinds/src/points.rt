@@ -2,7 +2,7 @@
 ghost use Prim.Native.Nat.{_≤_};
 ghost use lib.ListN.{length};
 ghost use Rattle.rules.specs.Patch.{body, points-turn, points-come};
-ghost use Rattle.bodies.specs.Heard.{setting-of};
+ghost use Rattle.bodies.specs.Setting.{setting-of};
 ghost use Rattle.kinds.specs.Holding.{held-of, Clean};
 ghost use Rattle.kinds.specs.Did.{Did};
 use crate::Done;

@@ -2,7 +2,7 @@
 ghost use mathlib.Core.Path.{_≡_};
 ghost use mathlib.Core.Bool.{false};
 ghost use Prim.Native.Nat.{_+_, _^_, _<_, _≤_};
-ghost use lib.ListN.{length, take};
+ghost use lib.ListN.{length};
 ghost use Rattle.rules.specs.Patch.{nothing, size};
 ghost use Rattle.kinds.specs.Holding.{Sound};
 ghost use Rattle.records.specs.Stepped.{holding};
@@ -13,23 +13,6 @@ struct Left {
     held: records::Held,
     more: bool,
     failed: bool,
-}
-
-// The bytes of the next record, as far as the input has them: none at its end.
-fn read_record(all: &mut [u8]) -> streams::Got
-    requires { ⌜ 132 ≤ length (now all) ⌝ }
-    ensures { λ r. ⌜ (r .count ≤ 132) × (r .count ≤ size (take (r .count) (now (all .exit)))) ⌝ }
-{
-    let words = b"patch: cannot read standard input";
-    let first = streams::fill(&mut all[0..2], words);
-    let begun = first.count;
-    let want = parsing::want(&all[..begun]);
-    let end = 2 + want;
-    let rest = streams::fill(&mut all[2..end], words);
-    streams::Got {
-        count: begun + rest.count,
-        failed: first.failed | rest.failed,
-    }
 }
 
 // A record of which the input has these bytes: taken, its lines written. The rest is room for it.
@@ -68,7 +51,7 @@ fn turn(
     ensures { λ r. ⌜ (r .failed ≡ false → Went held r) ⌝ }
 {
     let mut bytes = [0u8; 132];
-    let got = read_record(&mut bytes);
+    let got = input::read_record(&mut bytes, b"patch: cannot read standard input");
     if got.failed {
         return Left {
             held,

@@ -70,7 +70,7 @@ fn take(
         return kinds::points::take_points(stock, number, bytes, out);
     }
     if kind == 3 {
-        return kinds::words::take_word(stock, number, bytes, list, curve, work, out);
+        return words::take_word(stock, number, bytes, list, curve, work, out);
     }
     kinds::told(stock, number, kind, 11, true, out)
 }

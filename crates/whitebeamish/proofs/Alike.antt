@@ -6,7 +6,8 @@ use Rattle.rules.specs.Setting.{Setting}
 use Rattle.rules.specs.Outcome.{Finding, Reading, Finds}
 use Rattle.reader.specs.Calls.{finding}
 use Rattle.reader.proofs.Alike.{find-alike, read-alike}
-use Rattle.whitebeamish.specs.Told.{told, Read-told}
+use Rattle.answer.specs.Told.{told}
+use Rattle.whitebeamish.specs.Told.{Read-told}
 use Rattle.whitebeamish.specs.Alike.{Alike-find-told, Alike-answer, Alike-read-told}
 
 pub find-told-alike : (S : Setting) (points word curve work : List ℕ) (r r′ : ℕ) (c c′ w w′ : List ℕ)

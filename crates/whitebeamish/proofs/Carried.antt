@@ -11,7 +11,8 @@ use Rattle.rules.specs.Refusal.{find-refusal}
 use Rattle.rules.specs.Outcome.{Computed, Checked, Derived, Finding, Finds, Listing, used, find-call}
 use Rattle.field.specs.Answer.{answered}
 use Rattle.reader.specs.Calls.{checked, finding, listing}
-use Rattle.whitebeamish.specs.Told.{told, number, derived, List-told}
+use Rattle.answer.specs.Told.{told}
+use Rattle.whitebeamish.specs.Told.{number, derived, List-told}
 
 as-number : (b : Bool) → boolByte b ≡ number b
 as-number true = refl

@@ -1,5 +1,4 @@
 -- The lemmas of the crate, each file after those that it rests on.
-mod Told
 mod Carried
 pub mod Unique
 pub mod Alike

@@ -6,7 +6,8 @@ use Rattle.rules.specs.Setting.{Setting}
 use Rattle.rules.specs.Outcome.{Finding, Listing, Reading, Finds, used}
 use Rattle.reader.specs.Calls.{finding}
 use Rattle.reader.proofs.Unique.{find-unique, read-unique}
-use Rattle.whitebeamish.specs.Told.{told, List-told, Read-told}
+use Rattle.answer.specs.Told.{told}
+use Rattle.whitebeamish.specs.Told.{List-told, Read-told}
 
 -- a field call, the setting call and the check: both numbers and the answer follow from the call's outcome
 pub told-unique : {r r′ refusal : ℕ} (results answer t t′ : List ℕ) → (r ≡ refusal) × (t ≡ told results answer) → (r′ ≡ refusal) × (t′ ≡ told results answer)

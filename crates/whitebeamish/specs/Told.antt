@@ -1,17 +1,12 @@
--- The results that an exported call gives beside its refusal number: it writes them to the front of the lent answer, as many as the answer holds.
+-- The results that an exported call gives beside its refusal number, and what it leaves.
 use mathlib.Core.Path.{_≡_}
 use mathlib.Core.Bool.{Bool, cond}
 use mathlib.Core.List.{List, [], _∷_}
 use Prim.Native.Nat.{ℕ}
 use Rattle.rules.specs.Setting.{Setting}
 use Rattle.rules.specs.Outcome.{Derived, Listing, Reads}
+use Rattle.answer.specs.Told.{told}
 use Rattle.reader.specs.Calls.{reading}
-
--- the answer, with the results over its front
-unfoldable pub told : List ℕ → List ℕ → List ℕ
-told [] answer = answer
-told (x ∷ results) [] = []
-told (x ∷ results) (_ ∷ answer) = x ∷ told results answer
 
 -- yes is 1 and no is 0
 abbrev pub number : Bool → ℕ

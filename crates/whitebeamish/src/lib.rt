@@ -5,9 +5,8 @@ ghost use Rattle.rules.specs.Field.{modulus};
 ghost use Rattle.rules.specs.Outcome.{sum-call, difference-call, product-call, inverse-call, setting-call, encode-call, check-call, list-call, Finds};
 ghost use Rattle.setting.specs.Call.{asked};
 ghost use Rattle.reader.specs.Calls.{encoded, finding};
-ghost use Rattle.whitebeamish.specs.Told.{told, number, derived, List-told, Read-told};
-
-mod answer;
+ghost use Rattle.answer.specs.Told.{told};
+ghost use Rattle.whitebeamish.specs.Told.{number, derived, List-told, Read-told};
 
 // Whether p names a field.
 #[no_mangle]

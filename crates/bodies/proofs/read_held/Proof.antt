@@ -2,7 +2,7 @@
 use mathlib.Core.Path.{sym}
 use lib.ListN.{take}
 use lib.Seq.{length-take-le}
-use Rattle.bodies.specs.Heard.{setting-of}
+use Rattle.bodies.specs.Setting.{setting-of}
 use Rattle.bodies.proofs.Hearing.{Known, known, heard, found-few}
 use native.Mathlib.Omega.{arith}
 use borrow.Author.Needs.{needs}

@@ -10,6 +10,9 @@ use Rattle.patch.proofs.turn.Tie as tie
 slice-aggregate-read-record : tie.Need-slice-aggregate-read-record
 slice-aggregate-read-record c = search needs
 
+slice-aggregate-read-record-2 : tie.Need-slice-aggregate-read-record-2
+slice-aggregate-read-record-2 c = search needs
+
 read-record-requires : tie.Need-read-record-requires
 read-record-requires c κs = search needs
 
@@ -27,7 +30,7 @@ take-requires : tie.Need-take-requires
 take-requires c κs =
     let at-lent = c .before .before .before .before in
     let at-read = at-lent .before .before .before in
-    let start = at-read .before .before in
+    let start = at-read .before .before .before in
     let read = at-read .read-record in
     let long = length-take-le (read .result .count) (read .last .0) (omega arith) in
     (start .pre .0, start .pre .1, omega (arith, long), omega (arith, long, read .ensures .1))
@@ -40,6 +43,7 @@ turn-spec =
     tie.close
     (tie.spec
     slice-aggregate-read-record
+    slice-aggregate-read-record-2
     read-record-requires
     returns
     array-share-prefix-bytes
