@@ -3,7 +3,7 @@ use mathlib.Core.Bool.{Bool}
 use mathlib.Core.List.{List}
 use Prim.Native.Nat.{ℕ}
 use Rattle.rules.specs.Outcome.{Encoded, Checked, Finding, Listing, Reading}
-use Rattle.search.specs.declared.Tally.{Tally}
+use Rattle.roots.specs.declared.Tally.{Tally}
 use Rattle.reader.specs.declared.Outcome.{Outcome}
 
 abbrev pub encoded : ℕ → List ℕ → Encoded

@@ -5,7 +5,7 @@ ghost use Rattle.rules.specs.Outcome.{encode-call, check-call, list-call, Finds
 ghost use Rattle.setting.specs.Call.{asked};
 ghost use Rattle.reader.specs.Calls.{encoded, checked, finding, listing, reading, nothing, counts};
 use refusals::slices;
-use search::Tally;
+use roots::Tally;
 
 // What the check answers: the refusal number or 0, and yes or no, which is no where it refuses.
 pub struct Checked {
