@@ -185,8 +185,8 @@ class Faults(unittest.TestCase):
 
     def test_other_programs(self):
         with open("/dev/full", "wb") as full:
-            done = subprocess.run([RUN, "numbers"], stdout=full, stderr=subprocess.PIPE)
-        self.assertEqual((done.returncode, done.stderr.count(b"numbers: cannot write to standard output")), (1, 1))
+            done = subprocess.run([RUN, "test_numbers"], stdout=full, stderr=subprocess.PIPE)
+        self.assertEqual((done.returncode, done.stderr.count(b"test_numbers: cannot write to standard output")), (1, 1))
 
 
 @needs(patch_program, "target/bin/patch is not built or there is no rt, so tools/run was not tried")
@@ -213,7 +213,7 @@ class Words(unittest.TestCase):
         for words in (["-h"], ["--help"]):
             code, output, said = self.asked(*words)
             self.assertEqual((code, said), (0, ""))
-            self.assertIn("calls numbers patch", output)
+            self.assertIn("patch test_calls test_numbers", output)
         for words in ([], ["patch", "a", "b"], ["-x"], ["nothing"]):
             code, output, said = self.asked(*words)
             self.assertEqual((code, output), (2, ""))
