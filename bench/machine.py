@@ -39,6 +39,10 @@ def load():
     return f"{os.getloadavg()[0]:.1f}"
 
 
+def where():
+    return f"{platform.machine()}, {model()}, {os.cpu_count()} cores; load average {load()} when this began"
+
+
 BUFFERS = """\
 - Buffers: cleared, and the time for it is in every figure. For each word our program makes its lists of zeros anew (work of 24,000 numbers, curve of 6,400, list of 1,536); the finder clears (ℓ+1)²·W numbers of work before it starts, and the call clears R of them after finding and after listing. The compiler may leave out the last of these, since the program does not look at work again (bench/README.md). The second program takes fresh vectors from the allocator for each word, zeroed where it needs zeros; that is in its time too."""
 
@@ -49,7 +53,7 @@ def header(with_second):
     """Lines for the top of the output; no date."""
     arm = emulator()
     lines = [
-        f"- Machine: {platform.machine()}, {model()}, {os.cpu_count()} cores; load average {load()} when this began.",
+        f"- Machine: {where()}.",
         f"- Kit: {said('rt', 'version')}.",
     ]
     if arm:
