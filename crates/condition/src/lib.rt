@@ -7,10 +7,10 @@ ghost use Rattle.weights.specs.Shape.{Shaped};
 ghost use Rattle.slots.specs.Slot.{slot};
 ghost use Rattle.condition.specs.Valued.{valued};
 ghost use Rattle.condition.specs.Kept.{Fit, Picked, Met};
-use symbols::inv;
 use slots::raise;
 use slots::room;
 use slots::sweep;
+use symbols::inv;
 use weights::value;
 
 // The values of a condition at the curves that are alive, and 0 for the others. x and y are its weights.

@@ -9,8 +9,8 @@ ghost use Rattle.rules.specs.Curve.{weighted, passes};
 ghost use Rattle.rules.specs.Refusal.{under};
 ghost use Rattle.weights.specs.Triples.{tripled, Checkable};
 ghost use Rattle.multiplicity.specs.Met.{met};
-use runs::all_zero;
 use multiplicity::through;
+use runs::all_zero;
 
 // Whether each coefficient with i + t·(k−1) ≥ w is zero: of each row what lies behind the part that can be nonzero.
 fn weighted(k: usize, w: usize, l: usize, curve: &[u16]) -> bool

@@ -1,10 +1,10 @@
 // The root search: every root of a curve, and the tally, by value and lent.
 ghost use Rattle.search.specs.Search.{Asked, Curve-searched, Roots-left, spare, none};
 use beginnings::visit;
-use runs::copy;
 use lengthening::strip;
 use roots::Sizes;
 use roots::Tally;
+use runs::copy;
 
 // Every root of the curve in the spare slot, in order, behind those that the tally has counted before; the empty beginning has the curve stripped.
 fn run(q: u16, k: usize, w: usize, l: usize, work: &mut [u16], roots: &mut [u16], t: Tally) -> Tally
