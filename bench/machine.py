@@ -44,7 +44,7 @@ def where():
 
 
 BUFFERS = """\
-- Buffers: cleared, and the time for it is in every figure. For each word our program makes its lists of zeros anew (work of 24,000 numbers, curve of 6,400, list of 1,536); the finder clears (ℓ+1)²·W numbers of work before it starts, and the call clears R of them after finding and after listing. The compiler may leave out the last of these, since the program does not look at work again (bench/README.md). The second program takes fresh vectors from the allocator for each word, zeroed where it needs zeros; that is in its time too."""
+- Buffers: cleared, and the time for it is in every figure. Our program makes its buffers once (work of 24,000 numbers, curve of 6,400, list of 1,536); for each word the finder clears (ℓ+1)²·W numbers of work before it starts, and the call clears R of them after finding and after listing. The second program takes fresh vectors from the allocator for each word, zeroed where it needs zeros; that is in its time too."""
 
 EMULATED = "Times under an emulator say nothing about a real x86-64 machine, only how cases compare; nor does the ratio, for the second program is not emulated."
 
