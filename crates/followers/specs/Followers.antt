@@ -22,7 +22,7 @@ value-at q g w l b d i = eval (ops q) (firsts (ops q) (curve w l b d)) (g + i)
 -- a block of n symbols from g on
 pub record Block (q g n : ℕ) : Type 0 where
   pub some : 0 < n
-  pub small : n ≤ 64
+  pub small : n ≤ 32
   pub fits : g + n ≤ q
 
 -- those of the n numbers from g on at which d is zero

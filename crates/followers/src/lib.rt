@@ -51,10 +51,10 @@ fn block_size(q: u16, first: u16) -> u16
     ensures { λ r. ⌜ Block q first r ⌝ }
 {
     let rest = q - first;
-    if rest < 64 {
+    if rest < 32 {
         return rest;
     }
-    64
+    32
 }
 
 // The symbols from first on at which the value is zero, into out from place a on; r is the place behind them.
@@ -80,7 +80,7 @@ pub fn followers(q: u16, w: usize, l: usize, b: usize, work: &[u16], out: &mut [
     ensures { λ r. ⌜ Appended (followers-at q w l b (now (work .entry))) 0 (now (out .entry)) (now (out .exit)) r ⌝ }
 {
     let m = reciprocal(q);
-    let mut acc = [0u16; 64];
+    let mut acc = [0u16; 32];
     let mut count: usize = 0;
     let mut first: u16 = 0;
     while first < q {

@@ -12,7 +12,7 @@ use Rattle.followers.proofs.followers.Statement.{statement}
 use Rattle.followers.proofs.followers.Tie as tie
 
 abbrev Inv-loop : tie.InvT-loop
-Inv-loop q w l b work out₀ m acc₀ count₀ first₀ out acc count first = (first ≤ q) × (length acc ≡ 64) × Appended (following q (curve w l b work) first) 0 out₀ out count
+Inv-loop q w l b work out₀ m acc₀ count₀ first₀ out acc count first = (first ≤ q) × (length acc ≡ 32) × Appended (following q (curve w l b work) first) 0 out₀ out count
 
 abbrev μ-loop : tie.MeasureT-loop
 μ-loop q w l b work out₀ m acc₀ count₀ first₀ out acc count first = q - first
