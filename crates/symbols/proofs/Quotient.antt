@@ -3,12 +3,13 @@ use mathlib.Core.Path.{_≡_, sym, ap, _∙_}
 use Prim.Native.Nat.{ℕ, suc, _+_, _-_, _*_, _/_, _%_, _<_, _≤_}
 use native.Mathlib.Nat.{mul-le-mul-left, mul-le-mul-right, mul-assoc, mul-right-comm, add-mul, suc-mul, mul-add, mul-one, div-mul-le-self, lt-div-mul-add, add-mul-mod-self-right, mod-eq-of-lt}
 use native.Mathlib.Omega.{arith}
+use Rattle.symbols.specs.Reciprocal.{Reciprocal}
 
 -- what is left of x after a multiple of q, and is below q, is its remainder
 remainder-is : (x q k r : ℕ) → r < q → x ≡ r + k * q → r ≡ x % q
 remainder-is x q k r l e = sym (ap (λ (y : ℕ). y % q) e ∙ add-mul-mod-self-right r k q ∙ mod-eq-of-lt l)
 
-module _ (x q m : ℕ) (o : 0 < q) (is : m ≡ 4294967295 / q) (fits : x < 4294967296) where
+module _ (x q m : ℕ) (o : 0 < q) (is : Reciprocal q m) (fits : x < 4294967296) where
   abbrev t : ℕ
   t = x * m / 4294967296
 

@@ -1,9 +1,10 @@
 // Single symbols modulo q, which names a field. Any two numbers of 16 bits have a sum, a difference and a product.
 ghost use mathlib.Core.Path.{_≡_};
-ghost use Prim.Native.Nat.{_+_, _*_, _/_, _%_, _<_, _≤_};
+ghost use Prim.Native.Nat.{_+_, _*_, _%_, _<_, _≤_};
 ghost use lib.Dec.{T};
 ghost use Rattle.rules.specs.Field.{ops, plus, minus, times, modulus, inverse};
 ghost use Rattle.symbols.specs.Euclid.{Chain, Factor};
+ghost use Rattle.symbols.specs.Reciprocal.{Reciprocal};
 
 // x modulo q, by a division of 32 bits.
 fn reduced(x: u32, q: u16) -> u16
@@ -23,14 +24,14 @@ pub fn wide(x: u16, y: u16) -> u32
 // The multiplier by which by_reciprocal divides by q: one division for a whole run.
 pub fn reciprocal(q: u16) -> u32
     requires { ⌜ 0 < q ⌝ }
-    ensures { λ r. ⌜ r ≡ 4294967295 / q ⌝ }
+    ensures { λ r. ⌜ Reciprocal q r ⌝ }
 {
     4294967295u32 / (q as u32)
 }
 
 // x modulo q with no division: the quotient by the reciprocal m of q is at most one too low.
 fn by_reciprocal(x: u32, q: u16, m: u32) -> u16
-    requires { ⌜ (0 < q) × (m ≡ 4294967295 / q) ⌝ }
+    requires { ⌜ (0 < q) × Reciprocal q m ⌝ }
     ensures { λ r. ⌜ r ≡ x % q ⌝ }
 {
     let t = ((x as u64) * (m as u64)) >> 32;
@@ -67,7 +68,7 @@ pub fn mul(q: u16, a: u16, b: u16) -> u16
 }
 
 // d + c·s, reduced once.
-pub fn mixed(q: u16, d: u16, c: u16, s: u16) -> u16
+fn mixed(q: u16, d: u16, c: u16, s: u16) -> u16
     requires { ⌜ T (modulus q) ⌝ }
     ensures { λ r. ⌜ r ≡ plus q d (times q c s) ⌝ }
 {
@@ -76,7 +77,7 @@ pub fn mixed(q: u16, d: u16, c: u16, s: u16) -> u16
 
 // The same with the reciprocal m of q, for a loop.
 pub fn mixed_by(q: u16, m: u32, d: u16, c: u16, s: u16) -> u16
-    requires { ⌜ T (modulus q) × (m ≡ 4294967295 / q) ⌝ }
+    requires { ⌜ T (modulus q) × Reciprocal q m ⌝ }
     ensures { λ r. ⌜ r ≡ plus q d (times q c s) ⌝ }
 {
     by_reciprocal(d as u32 + wide(c, s), q, m)

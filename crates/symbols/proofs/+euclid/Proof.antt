@@ -1,4 +1,4 @@
--- euclid: the second remainder falls; Euclid.antt has what a call is handed and what its answer is good for.
+-- euclid: the second remainder falls; Factors.antt has what a call is handed and what its answer is good for.
 use Prim.Native.Nat.{ℕ, _<_}
 use native.Mathlib.Omega.{arith}
 use borrow.Author.Needs.{needs}
