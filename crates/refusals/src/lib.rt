@@ -1,4 +1,4 @@
-// The refusal numbers of the calls: the lowest that applies, and 0 where none does.
+// The refusal numbers 5 to 8 of what a call is lent, and the whole number of encode: the lowest that applies, and 0 where none does.
 ghost use mathlib.Core.Path.{_≡_};
 ghost use mathlib.Core.Bool.{cond};
 ghost use mathlib.Core.List.{[], _∷_, _++_};
