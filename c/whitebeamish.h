@@ -13,7 +13,7 @@
  *     take(output + j * k);                                     message number j: k symbols, constant term first
  *
  * Link with libwhitebeamish.a: x86-64 Linux only. It needs nothing but memcpy and memset. The most
- * stack that was seen in use, in a build for Arm, is 33 KB, at k = 64; no proof bounds it.
+ * stack that was seen in use, in a build for Arm, is 41 KB, at k = 64; no proof bounds it.
  * example.c beside this file is a whole program that writes a patch, damages it and reads it. */
 #ifndef WHITEBEAMISH_H
 #define WHITEBEAMISH_H
