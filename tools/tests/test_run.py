@@ -171,14 +171,15 @@ class Faults(unittest.TestCase):
         self.assertNotEqual(process.returncode, 0)
 
     def test_a_signal_ends_the_program_too(self):
-        """It waits for its input; when it is gone the pipe has no reader."""
+        """It waits for its input; when it is gone the pipe has no reader. A shell cannot trap what was ignored when it began, as SIGINT is in the background of a script."""
         for number in (signal.SIGHUP, signal.SIGINT, signal.SIGQUIT, signal.SIGTERM):
-            process = subprocess.Popen(patch_program(), stdin=subprocess.PIPE, stdout=subprocess.PIPE, stderr=subprocess.PIPE)
+            process = subprocess.Popen(patch_program(), stdin=subprocess.PIPE, stdout=subprocess.PIPE, stderr=subprocess.PIPE,
+                                       preexec_fn=lambda: signal.signal(number, signal.SIG_DFL))
             process.stdin.write(SEVEN[0])
             process.stdin.flush()
             self.assertEqual(process.stdout.readline(), b"1 1 0\n")
             process.send_signal(number)
-            self.assertEqual(process.wait(), 128 + number)
+            self.assertEqual(process.wait(60), 128 + number)
             with self.assertRaises(BrokenPipeError):
                 os.write(process.stdin.fileno(), REEL)
             process.communicate()
