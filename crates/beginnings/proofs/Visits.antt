@@ -16,11 +16,10 @@ use Rattle.buffers.proofs.Part.{len-mid}
 use Rattle.roots.specs.declared.Sizes.{Sizes}
 use Rattle.roots.specs.declared.Tally.{Tally}
 use Rattle.followers.specs.Slot.{run, Slot-below, curve}
-use Rattle.followers.specs.Followers.{following}
+use Rattle.followers.specs.Followers.{following, Written}
 use Rattle.lengthening.specs.Lengthened.{Lengthened}
 use Rattle.roots.specs.Ready.{size, found-at, tried-at, listed, Search-ready}
 use Rattle.beginnings.specs.Searched.{Searched}
-use Rattle.followers.specs.Followers.{Written}
 use Rattle.followers.proofs.Heads.{run-at}
 use Rattle.followers.proofs.Blocks.{following-each}
 use Rattle.roots.proofs.Roots.{listed-none, listed-append, listed-more}
@@ -35,11 +34,6 @@ peel (suc n) s l = rw (sub-one (suc n)) (suc-mul n s)
 pub searched-to : {h : Sizes} {left a n m : ℕ} {d b z d′ b′ z′ : List ℕ} {t r : Tally} {fs gs : List (List ℕ)} →
     Searched h left a d b z t fs n d′ b′ z′ r → fs ≡ gs → n ≡ m → Searched h left a d b z t gs m d′ b′ z′ r
 searched-to h e f = rw (e, f) at h
-
--- and the same ends
-pub searched-at : {h : Sizes} {left a n : ℕ} {d b z d′ b′ z′ d″ b″ z″ : List ℕ} {t r r′ : Tally} {fs : List (List ℕ)} →
-    Searched h left a d b z t fs n d′ b′ z′ r → d″ ≡ d′ → b″ ≡ b′ → z″ ≡ z′ → r′ ≡ r → Searched h left a d b z t fs n d″ b″ z″ r′
-searched-at h e f g k = rw (e, f, g, k) h
 
 module _ (h : Sizes) (left a : ℕ) (d b z : List ℕ) (t : Tally) where
   abbrev pub q : ℕ

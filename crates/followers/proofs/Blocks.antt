@@ -15,7 +15,7 @@ use Rattle.algebra.proofs.Search.{keep-append}
 use Rattle.buffers.specs.Change.{Changed}
 use Rattle.buffers.proofs.Change.{changed-none, changed-more, changed-front}
 use Rattle.followers.specs.Slot.{curve}
-use Rattle.followers.specs.Followers.{horner-at, value-at, zeros-from, following, followers-at, Appended}
+use Rattle.followers.specs.Followers.{horner-at, head-value-at, zeros-from, following, followers-at, Appended}
 use Rattle.followers.proofs.Heads.{heads-none, heads-more, heads-all, heads-test}
 use Rattle.followers.proofs.Written.{written-append}
 
@@ -110,7 +110,7 @@ module _ (q first w l b : ℕ) (work : List ℕ) where
   }
 
   pub values-all : (t : ℕ) {d acc₀ acc : List ℕ} → t ≡ 0 → Changed (λ k. 0) 0 (length d) d acc₀ → Changed (partly t) 0 (length acc₀) acc₀ acc →
-      Changed (value-at q first w l b work) 0 (length d) d acc
+      Changed (head-value-at q first w l b work) 0 (length d) d acc
   values-all t z c h = record {
     len = h .len ∙ c .len;
     new = λ i k. h .new i (omega (arith, c .len)) ∙ heads-all q w l (first + i) _ t z;
@@ -122,7 +122,7 @@ module _ (q first w l b : ℕ) (work : List ℕ) where
   Q = curve w l b work
 
   -- a block more, and room for it
-  module _ (m : T (modulus q)) (n : ℕ) {r : ℕ} {acc₀ acc out₀ out : List ℕ} (u : n ≤ length acc₀) (v : Changed (value-at q first w l b work) 0 (length acc₀) acc₀ acc)
+  module _ (m : T (modulus q)) (n : ℕ) {r : ℕ} {acc₀ acc out₀ out : List ℕ} (u : n ≤ length acc₀) (v : Changed (head-value-at q first w l b work) 0 (length acc₀) acc₀ acc)
       (h : Appended (following q Q first) 0 out₀ out r) where
     same : keep (follows (ops q) Q) (from (0 + first) n) ≡ zeros-from first n acc
     same =

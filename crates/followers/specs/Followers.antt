@@ -16,8 +16,8 @@ abbrev pub horner-at : ℕ → ℕ → ℕ → List ℕ → ℕ → ℕ
 horner-at q g c d i = plus q c (times q (g + i) (getD d i 0))
 
 -- Q(0, y) at the i-th symbol from g on, for the curve Q in the slot from b on
-abbrev pub value-at : ℕ → ℕ → ℕ → ℕ → ℕ → List ℕ → ℕ → ℕ
-value-at q g w l b d i = eval (ops q) (firsts (ops q) (curve w l b d)) (g + i)
+abbrev pub head-value-at : ℕ → ℕ → ℕ → ℕ → ℕ → List ℕ → ℕ → ℕ
+head-value-at q g w l b d i = eval (ops q) (firsts (ops q) (curve w l b d)) (g + i)
 
 -- a block of n symbols from g on
 pub record Block (q g n : ℕ) : Type 0 where

@@ -5,7 +5,7 @@ ghost use lib.Dec.{T};
 ghost use lib.ListN.{length};
 ghost use Rattle.rules.specs.Field.{modulus};
 ghost use Rattle.buffers.specs.Change.{Changed};
-ghost use Rattle.followers.specs.Followers.{horner-at, value-at, Block, zeros-from, followers-at, Appended};
+ghost use Rattle.followers.specs.Followers.{horner-at, head-value-at, Block, zeros-from, followers-at, Appended};
 use runs::clear;
 use symbols::mixed_by;
 use symbols::reciprocal;
@@ -35,7 +35,7 @@ fn block_values(
     acc: &mut [u16],
 )
     requires { ⌜ T (modulus q) × (m ≡ 4294967295 / q) × (first + length (now acc) ≤ 65535) × (0 < w) × (l ≤ 24) × (b + (l + 1) * w ≤ length (now work)) ⌝ }
-    ensures { λ _. ⌜ Changed (value-at q first w l b (now (work .entry))) 0 (length (now (acc .entry))) (now (acc .entry)) (now (acc .exit)) ⌝ }
+    ensures { λ _. ⌜ Changed (head-value-at q first w l b (now (work .entry))) 0 (length (now (acc .entry))) (now (acc .entry)) (now (acc .exit)) ⌝ }
 {
     clear(acc);
     let mut t = l + 1;

@@ -70,19 +70,24 @@ pub fn copy_within(work: &mut [u16], a: usize, b: usize, n: usize)
     }
 }
 
+// The run of n from b on becomes zeros.
+fn clear_within(work: &mut [u16], b: usize, n: usize)
+    requires { ⌜ b + n ≤ length (now work) ⌝ }
+    ensures { λ _. ⌜ Changed (λ i. 0) b n (now (work .entry)) (now (work .exit)) ⌝ }
+{
+    let mut i: usize = 0;
+    while i < n {
+        work[b + i] = 0;
+        i += 1;
+    }
+}
+
 // The run of n from b on becomes the run from a on, from its place v on, with zeros behind.
 pub fn strip_run(work: &mut [u16], a: usize, b: usize, v: usize, n: usize)
     requires { ⌜ Runs-apart a b n × (v ≤ n) × (a + n ≤ length (now work)) × (b + n ≤ length (now work)) ⌝ }
     ensures { λ _. ⌜ Changed (cut (now (work .entry)) a v n) b n (now (work .entry)) (now (work .exit)) ⌝ }
 {
-    let mut i: usize = 0;
-    while i < n {
-        let mut x: u16 = 0;
-        if v < n - i {
-            let j = i + v;
-            x = work[a + j];
-        }
-        work[b + i] = x;
-        i += 1;
-    }
+    let m = n - v;
+    copy_within(work, a + v, b, m);
+    clear_within(work, b + m, v);
 }

@@ -1,6 +1,6 @@
 -- visit and walk: the symbols left fall from a visit to its walk and to the next visit; what each visit of a walk is handed and leaves is in Visits.antt.
 use mathlib.Core.Path.{_≡_, sym, _∙_}
-use Prim.Native.Nat.{_+_, _-_, _≤_}
+use Prim.Native.Nat.{ℕ, _+_, _-_, _<_, _≤_}
 use native.Mathlib.Nat.{pos-of-ne-zero}
 use lib.ListN.{length}
 use Rattle.buffers.proofs.Change.{changed-front}
@@ -12,7 +12,6 @@ use Rattle.beginnings.proofs.Few.{ready-few}
 use Rattle.beginnings.proofs.Visits.{Seen, peel, seen-none, room-after, same-low, symbol, enter, leave, searched-to, tried-some, ready-end, ready-walk, searched-end, searched-visit}
 use native.Mathlib.Omega.{arith}
 use borrow.Author.Needs.{needs}
-use Prim.Native.Nat.{ℕ, _<_}
 use borrow.Fn.Kinds.{In}
 use borrow.Fn.PlainCycle.{Measures, is, falls, and}
 use Rattle.beginnings.proofs.visit.Reads as visit
@@ -113,31 +112,52 @@ module _ (t : ℕ) where
       let x = start .args in
       searched-visit _ _ (tried-some (x .h) (x .left) (x .a) (x .work .now) (at-if1 .if1 .left)) (at-walk .walk .ensures)
 
-  -- the start of walk, as its loop looks back to it
+  -- the places of walk that answers look back to: its start, from where what it is lent is known, from where the symbols' room is made and from the loop;
+  -- in a turn the loop from where the curve is lengthened, that from the visit, and the visit from the turn's end
+  abbrev walk-start : walk-lts.After-struct-known walk-claims (walk-at t) walk.Post walk-Inv-loop walk-μ-loop →
+      walk-lts.Start walk-claims (walk-at t) walk.Post walk-Inv-loop walk-μ-loop
+  walk-start c = c .before .before .before .before
+
+  abbrev walk-begun : walk-lts.After-symbols walk-claims (walk-at t) walk.Post walk-Inv-loop walk-μ-loop →
+      walk-lts.Start walk-claims (walk-at t) walk.Post walk-Inv-loop walk-μ-loop
+  walk-begun c = walk-start (c .before .before)
+
   abbrev walk-entry : walk-lts.At-loop walk-claims (walk-at t) walk.Post walk-Inv-loop walk-μ-loop →
       walk-lts.Start walk-claims (walk-at t) walk.Post walk-Inv-loop walk-μ-loop
-  walk-entry c = c .before .before .before .before .before .before .before .before .before
+  walk-entry c = walk-begun (c .before .before .before)
+
+  abbrev walk-turn : walk-lts.After-lengthen walk-claims (walk-at t) walk.Post walk-Inv-loop walk-μ-loop →
+      walk-lts.In-loop walk-claims (walk-at t) walk.Post walk-Inv-loop walk-μ-loop
+  walk-turn c = c .before .before
+
+  abbrev walk-lengthened : walk-lts.After-visit-arg3 walk-claims (walk-at t) walk.Post walk-Inv-loop walk-μ-loop →
+      walk-lts.After-lengthen walk-claims (walk-at t) walk.Post walk-Inv-loop walk-μ-loop
+  walk-lengthened c = c .before .before .before .before .before
+
+  abbrev walk-visited : walk-lts.After-slice-known7 walk-claims (walk-at t) walk.Post walk-Inv-loop walk-μ-loop →
+      walk-lts.After-visit walk-claims (walk-at t) walk.Post walk-Inv-loop walk-μ-loop
+  walk-visited c = let at-begun = c .before .before .before in at-begun .before .before .before
 
   walk-sub-place : walk-lts.Need-sub-place walk-claims (walk-at t) walk.Post walk-Inv-loop walk-μ-loop
-  walk-sub-place c = omega (arith, c .before .before .before .before .pre .1 .1 .placed)
+  walk-sub-place c = omega (arith, walk-start c .pre .1 .1 .placed)
 
   walk-add-after : walk-lts.Need-add-after walk-claims (walk-at t) walk.Post walk-Inv-loop walk-μ-loop
   walk-add-after c =
-      let start = c .before .before .before .before in
+      let start = walk-start c in
       let x = start .args in
       let p = start .pre .1 in
       omega (arith, p .1 .slots, p .1 .sized .tall, peel (x .left) (size (x .h)) (p .0))
 
   walk-mul-after : walk-lts.Need-mul-after walk-claims (walk-at t) walk.Post walk-Inv-loop walk-μ-loop
   walk-mul-after c =
-      let start = c .before .before .before .before in
+      let start = walk-start c in
       let x = start .args in
       let p = start .pre .1 in
       omega (arith, p .1 .slots, p .1 .sized .tall, peel (x .left) (size (x .h)) (p .0))
 
   walk-add-after-2 : walk-lts.Need-add-after-2 walk-claims (walk-at t) walk.Post walk-Inv-loop walk-μ-loop
   walk-add-after-2 c =
-      let start = c .before .before .before .before in
+      let start = walk-start c in
       let x = start .args in
       let p = start .pre .1 in
       omega (arith, p .1 .slots, p .1 .sized .tall, peel (x .left) (size (x .h)) (p .0))
@@ -147,7 +167,7 @@ module _ (t : ℕ) where
 
   walk-followers-requires : walk-lts.Need-followers-requires walk-claims (walk-at t) walk.Post walk-Inv-loop walk-μ-loop
   walk-followers-requires c κs =
-      let p = c .before .before .before .before .before .before .pre .1 in (
+      let p = walk-begun c .pre .1 in (
         p .1 .sized .field,
         p .1 .sized .wide,
         p .1 .sized .tall,
@@ -156,7 +176,8 @@ module _ (t : ℕ) where
       )
 
   walk-loop-holds : walk-lts.Need-loop-holds walk-claims (walk-at t) walk.Post walk-Inv-loop walk-μ-loop
-  walk-loop-holds c = let x = c .before .before .before .before .before .before .before .before .args in
+  walk-loop-holds c =
+      let x = walk-begun (c .before .before) .args in
       (omega arith, seen-none (x .h) (x .left) (x .a) (x .work .now) (x .begun .now) (x .roots .now) (x .t))
 
   walk-mul-g : walk-lts.Need-mul-g walk-claims (walk-at t) walk.Post walk-Inv-loop walk-μ-loop
@@ -203,8 +224,8 @@ module _ (t : ℕ) where
 
   walk-visit-requires : walk-lts.Need-visit-requires walk-claims (walk-at t) walk.Post walk-Inv-loop walk-μ-loop
   walk-visit-requires c κs =
-      let at-lengthen = c .before .before .before .before .before in
-      let at-loop = at-lengthen .before .before .before in
+      let at-lengthen = walk-lengthened c in
+      let at-loop = walk-turn at-lengthen .before in
       let start = walk-entry at-loop in
       let x = start .args in
       let p = start .pre .1 in
@@ -217,8 +238,7 @@ module _ (t : ℕ) where
 
   walk-add-i : walk-lts.Need-add-i walk-claims (walk-at t) walk.Post walk-Inv-loop walk-μ-loop
   walk-add-i c =
-      let at-visit = c .before .before .before .before .before .before in
-      let at-loop = at-visit .before .before .before .before .before .before .before .before .before in
+      let at-loop = walk-turn (walk-lengthened (walk-visited c .before)) .before in
       let p = walk-entry at-loop .pre .1 in
       omega (arith, at-loop .before .before .followers .ensures .count, p .1 .sized .tall, ready-few (p .0) (p .1))
 
@@ -227,9 +247,9 @@ module _ (t : ℕ) where
 
   walk-loop-again : walk-lts.Need-loop-again walk-claims (walk-at t) walk.Post walk-Inv-loop walk-μ-loop
   walk-loop-again c =
-      let at-visit = c .before .before .before .before .before .before in
-      let at-lengthen = at-visit .before .before .before .before .before .before in
-      let at-test = at-lengthen .before .before in
+      let at-visit = walk-visited c in
+      let at-lengthen = walk-lengthened (at-visit .before) in
+      let at-test = walk-turn at-lengthen in
       let at-loop = at-test .before in
       let start = walk-entry at-loop in
       let x = start .args in

@@ -1,5 +1,5 @@
 -- block_values: the values of what the rows from t on begin with.
-use Prim.Native.Nat.{_+_, _-_, _<_, _≤_}
+use Prim.Native.Nat.{_+_, _-_, _*_, _<_, _≤_}
 use lib.ListN.{length}
 use Rattle.buffers.specs.Change.{Changed}
 use Rattle.buffers.proofs.Rows.{row-fits}
@@ -15,6 +15,22 @@ Inv-loop q m first w l b work acc₀ t₀ acc t = (t ≤ l + 1) × Changed (part
 abbrev μ-loop : tie.MeasureT-loop
 μ-loop q m first w l b work acc₀ t₀ acc t = t
 
+-- the places that answers look back to: where the block is cleared, from the loop, and the start
+abbrev cleared : tie.At-loop Inv-loop μ-loop → tie.After-clear Inv-loop μ-loop
+cleared c = c .before .before .before
+
+abbrev entry : tie.After-clear Inv-loop μ-loop → tie.Start Inv-loop μ-loop
+entry c = c .before .before .before .before
+
+-- in a turn, the row that is read ends within the slot
+inside : (c : tie.In-loop Inv-loop μ-loop) → let x = entry (cleared (c .before)) .args in
+    x .b + ((c .before .loop .t - 1) * x .w + x .w) ≤ length (x .work .now)
+inside c =
+    let start = entry (cleared (c .before)) in
+    let x = start .args in
+    let f : c .before .loop .t - 1 < x .l + 1 = omega arith in
+    omega (arith, row-fits (x .w) f, start .pre .5)
+
 clear-requires : tie.Need-clear-requires Inv-loop μ-loop
 clear-requires c κs = search needs
 
@@ -23,71 +39,53 @@ add-t c = search needs
 
 loop-holds : tie.Need-loop-holds Inv-loop μ-loop
 loop-holds c =
-    let x = c .before .before .before .before .before .before .args in
-    (search needs, values-none (x .q) (x .first) (x .w) (x .l) (x .b) (x .work .now) (c .before .before .clear .ensures))
+    let at-clear = c .before .before in
+    let x = entry at-clear .args in
+    (search needs, values-none (x .q) (x .first) (x .w) (x .l) (x .b) (x .work .now) (at-clear .clear .ensures))
 
 sub-t : tie.Need-sub-t Inv-loop μ-loop
 sub-t c = search needs
 
 mul-horner-block : tie.Need-mul-horner-block Inv-loop μ-loop
-mul-horner-block c =
-    let l = c .before .loop in
-    let start = c .before .before .before .before .before .before .before .before in
-    let x = start .args in
-    let f : l .t - 1 < x .l + 1 = omega arith in
-    omega (arith, row-fits (x .w) f, start .pre .5)
+mul-horner-block c = omega (arith, inside c)
 
 add-horner-block : tie.Need-add-horner-block Inv-loop μ-loop
-add-horner-block c =
-    let l = c .before .loop in
-    let start = c .before .before .before .before .before .before .before .before in
-    let x = start .args in
-    let f : l .t - 1 < x .l + 1 = omega arith in
-    omega (arith, row-fits (x .w) f, start .pre .5)
+add-horner-block c = omega (arith, inside c)
 
 mul-horner-block-2 : tie.Need-mul-horner-block-2 Inv-loop μ-loop
-mul-horner-block-2 c =
-    let l = c .before .loop in
-    let start = c .before .before .before .before .before .before .before .before in
-    let x = start .args in
-    let f : l .t - 1 < x .l + 1 = omega arith in
-    omega (arith, row-fits (x .w) f, start .pre .5)
+mul-horner-block-2 c = omega (arith, inside c)
 
 shared-slice-read-horner-block : tie.Need-shared-slice-read-horner-block Inv-loop μ-loop
-shared-slice-read-horner-block c =
-    let l = c .before .before .loop in
-    let start = c .before .before .before .before .before .before .before .before .before in
-    let x = start .args in
-    let f : l .t - 1 < x .l + 1 = omega arith in
-    omega (arith, row-fits (x .w) f, start .pre .5)
+shared-slice-read-horner-block c = omega (arith, inside (c .before), entry (cleared (c .before .before)) .pre .3)
 
 horner-block-requires : tie.Need-horner-block-requires Inv-loop μ-loop
 horner-block-requires c κs =
     let at-loop = c .before .before .before in
-    let start = at-loop .before .before .before .before .before .before .before in
-    (start .pre .0, start .pre .1, omega (arith, start .pre .2, at-loop .before .before .before .clear .ensures .len, at-loop .loop .inv .1 .len))
+    let at-clear = cleared at-loop in
+    let p = entry at-clear .pre in
+    (p .0, p .1, omega (arith, p .2, at-clear .clear .ensures .len, at-loop .loop .inv .1 .len))
 
 loop-less : tie.Need-loop-less Inv-loop μ-loop
 loop-less c = search needs
 
 loop-again : tie.Need-loop-again Inv-loop μ-loop
 loop-again c =
-    let at-loop = c .before .before .before .before .before .before in
-    let start = at-loop .before .before .before .before .before .before .before in
+    let at-horner = c .before .before in
+    let at-loop = at-horner .before .before .before .before in
+    let start = entry (cleared at-loop) in
     let x = start .args in
     let l = at-loop .loop in
-    (omega arith, values-more (x .q) (x .first) (x .w) (x .l) (x .b) (x .work .now) (l .t) (start .pre .3) (omega arith) (omega arith) (l .inv .1) (c .before .before .horner-block .ensures))
+    (omega arith, values-more (x .q) (x .first) (x .w) (x .l) (x .b) (x .work .now) (l .t) (start .pre .3) (omega arith) (omega arith) (l .inv .1) (at-horner .horner-block .ensures))
 
 same-length : tie.Need-same-length Inv-loop μ-loop
-same-length c = omega (arith, c .before .before .before .before .clear .ensures .len, c .before .loop .inv .1 .len)
+same-length c = omega (arith, cleared (c .before) .clear .ensures .len, c .before .loop .inv .1 .len)
 
 returns : tie.Need-returns Inv-loop μ-loop
 returns c =
-    let at-loop = c .before in
-    let start = at-loop .before .before .before .before .before .before .before in
-    let x = start .args in
-    let l = at-loop .loop in
-    values-all (x .q) (x .first) (x .w) (x .l) (x .b) (x .work .now) (l .t) (omega arith) (at-loop .before .before .before .clear .ensures) (l .inv .1)
+    let at-clear = cleared (c .before) in
+    let x = entry at-clear .args in
+    let l = c .before .loop in
+    values-all (x .q) (x .first) (x .w) (x .l) (x .b) (x .work .now) (l .t) (omega arith) (at-clear .clear .ensures) (l .inv .1)
 
 pub block-values-spec : {M : Type 1} → statement M
 block-values-spec =

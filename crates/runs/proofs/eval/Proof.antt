@@ -17,11 +17,15 @@ Inv-loop q f x m sum₀ i₀ sum i = (i ≤ length f) × (sum ≡ eval (ops q) (
 abbrev μ-loop : tie.MeasureT-loop
 μ-loop q f x m sum₀ i₀ sum i = i
 
+-- the start, as the loop looks back to it
+abbrev entry : tie.At-loop Inv-loop μ-loop → tie.Start Inv-loop μ-loop
+entry c = c .before .before .before
+
 reciprocal-requires : tie.Need-reciprocal-requires Inv-loop μ-loop
 reciprocal-requires c κs = omega (arith, modulus-two (c .before .args .q) (c .before .pre))
 
 loop-holds : tie.Need-loop-holds Inv-loop μ-loop
-loop-holds c = (search needs, eval-none (c .before .before .args .q) (c .before .before .args .f .now) (c .before .before .args .x))
+loop-holds c = let x = c .before .before .args in (search needs, eval-none (x .q) (x .f .now) (x .x))
 
 sub-i : tie.Need-sub-i Inv-loop μ-loop
 sub-i c = search needs
@@ -42,8 +46,9 @@ loop-less c = search needs
 
 loop-again : tie.Need-loop-again Inv-loop μ-loop
 loop-again c =
-    let l = c .before .before .before .loop in
-    let x = c .before .before .before .before .before .before .args in (
+    let at-loop = c .before .before .before in
+    let l = at-loop .loop in
+    let x = entry at-loop .args in (
       search needs,
       c .mixed-by .ensures ∙ ap (λ (v : ℕ). plus (x .q) (getD (x .f .now) (l .i - 1) 0) (times (x .q) (x .x) v)) (l .inv .1)
           ∙ eval-more (x .q) (x .f .now) (x .x) (l .i) (omega arith) (omega arith),
@@ -51,8 +56,9 @@ loop-again c =
 
 returns : tie.Need-returns Inv-loop μ-loop
 returns c =
-    let start = c .before .before .before .before in
-    c .before .loop .inv .1 ∙ eval-all (start .args .q) (start .args .f .now) (start .args .x) (c .before .loop .i) (omega arith)
+    let x = entry (c .before) .args in
+    let l = c .before .loop in
+    l .inv .1 ∙ eval-all (x .q) (x .f .now) (x .x) (l .i) (omega arith)
 
 pub eval-spec : {M : Type 1} → statement M
 eval-spec =
