@@ -16,7 +16,7 @@ use Rattle.algebra.specs.Hom.{Hom}
 use Rattle.algebra.specs.Poly.{neg}
 use Rattle.algebra.specs.Conditions.{Condition, Ready, carry}
 use Rattle.algebra.specs.Space.{Space, In, space, mix, shift, raised, value, Pivot}
-use Rattle.algebra.proofs.Ring.{add-neg, cancel, mul-nil, nil-mul, clears}
+use Rattle.algebra.proofs.Ring.{nil-mul, mul-neg, clears}
 use Rattle.algebra.proofs.Conditions.{value-ext}
 use Rattle.algebra.proofs.Carry.{value-hom}
 use Rattle.algebra.proofs.Basis.{quiet, step}
@@ -61,12 +61,9 @@ module _ {q k w l : ℕ} (s : Shaped q k w l) (h : 1 < q) where
   elt-zero : (x : ℕ) → x < q → e x ≡ e 0 → x ≡ 0
   elt-zero x l z = sym (mod-eq-of-lt l) ∙ ap (λ a. a .0) z ∙ zero-mod q
 
-  mul-neg : (a b : Fin q) → F .mul a (neg F b) ≡ neg F (F .mul a b)
-  mul-neg a b = cancel F L (F .mul a b) _ _ (sym (L .mul-add a b (neg F b)) ∙ ap (F .mul a) (add-neg F L b) ∙ mul-nil F L a ∙ sym (add-neg F L (F .mul a b)))
-
   -- the ratio by which a curve loses, in the field
   elt-ratio : (v over : ℕ) → e (ratio q over v) ≡ neg F (F .mul (e v) (e over))
-  elt-ratio v over = H .mul v _ ∙ ap (F .mul (e v)) (elt-neg over) ∙ mul-neg (e v) (e over)
+  elt-ratio v over = H .mul v _ ∙ ap (F .mul (e v)) (elt-neg over) ∙ mul-neg F L (e v) (e over)
 
   ratio-none : (over : ℕ) → e (ratio q over 0) ≡ F .nil
   ratio-none over = H .mul 0 (minus q 0 over) ∙ nil-mul F L (e (minus q 0 over))
