@@ -9,7 +9,7 @@ use lib.ListN.{length, getD, take, length-map}
 use lib.Seq.{take-suc}
 use Rattle.rules.specs.Lists.{from, below, sum}
 use Rattle.rules.specs.Code.{Triple, triples}
-use Rattle.rules.proofs.Tests.{from-mem, mem-from}
+use Rattle.rules.proofs.Tests.{map-mem, from-mem, mem-from}
 use Rattle.algebra.specs.Conditions.{Condition, condition, conditions-along, conditions-at, conditions, Ready}
 use Rattle.algebra.proofs.Lists.{map-append, length-flatMap}
 
@@ -89,10 +89,6 @@ module _ {A : Type 0} where
 
       whole : half * 2 ≡ s * (s + 1)
       whole = let e = triangle s 0 s (omega arith) in ap (λ m. m * 2) (div-eq-of-eq-mul-left (omega arith) (sym e)) ∙ e
-
-map-mem : {A B : Type 0} (f : A → B) {x : A} {xs : List A} → List·Memᴰ x xs → List·Memᴰ (f x) (map f xs)
-map-mem f (List·Memᴰ·head e) = List·Memᴰ·head (ap f e)
-map-mem f (List·Memᴰ·tail m) = List·Memᴰ·tail (map-mem f m)
 
 mem-map : {A B : Type 0} (f : A → B) (xs : List A) {y : B} → List·Memᴰ y (map f xs) → (x : A) × List·Memᴰ x xs × (y ≡ f x)
 mem-map f (x ∷ xs) (List·Memᴰ·head e) = (x, List·Memᴰ·head refl, e)

@@ -44,6 +44,9 @@ module _ (O : Ops) (L : Laws O) where
   pub nil-mul : (a : Symbol) → mul nil a ≡ nil
   nil-mul a = L .mul-comm _ _ ∙ mul-nil a
 
+  pub mul-neg : (a b : Symbol) → mul a (neg O b) ≡ neg O (mul a b)
+  mul-neg a b = cancel (mul a b) _ _ (sym (L .mul-add a b (neg O b)) ∙ ap (mul a) (add-neg b) ∙ mul-nil a ∙ sym (add-neg (mul a b)))
+
   -- a difference that is zero
   pub sub-nil : (a b : Symbol) → add a (neg O b) ≡ nil → a ≡ b
   sub-nil a b e =

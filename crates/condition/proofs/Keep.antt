@@ -9,14 +9,14 @@ use native.Mathlib.Decide.{ℕ-discrete, decLt}
 use native.Mathlib.Omega.{arith}
 use lib.ListN.{length, getD, set}
 use lib.Seq.{getD-set-same, getD-set-other, getD-take, getD-drop}
-use Rattle.rules.specs.Field.{Ops, ops, minus, times, inverse}
+use Rattle.rules.specs.Field.{Ops, ops, minus, inverse}
 use Rattle.rules.specs.Laws.{Laws}
 use Rattle.rules.specs.Curve.{coefficient}
 use Rattle.algebra.specs.Hom.{Hom}
 use Rattle.algebra.specs.Poly.{neg}
 use Rattle.algebra.specs.Conditions.{Condition, Ready, carry}
 use Rattle.algebra.specs.Space.{Space, In, space, mix, shift, raised, value, Pivot}
-use Rattle.algebra.proofs.Ring.{nil-mul, neg-add, clears}
+use Rattle.algebra.proofs.Ring.{nil-mul, mul-neg, clears}
 use Rattle.algebra.proofs.Conditions.{value-ext}
 use Rattle.algebra.proofs.Carry.{value-hom}
 use Rattle.algebra.proofs.Basis.{quiet, step}
@@ -31,12 +31,12 @@ use Rattle.weights.specs.Shape.{Shaped}
 use Rattle.weights.specs.Value.{pairing}
 use Rattle.weights.proofs.Pairing.{pairing-value}
 use Rattle.within.specs.Runs.{moved}
-use Rattle.slots.specs.Slot.{slot, place, share, curve-at, raised-at, Treated, Swept}
+use Rattle.slots.specs.Slot.{slot, place, ratio, curve-at, raised-at, Treated, Swept}
 use Rattle.condition.specs.Valued.{valued}
 use Rattle.condition.specs.Kept.{Fit, Row, First, view, Kept, Met}
 use Rattle.slots.proofs.Swept.{place-in}
 use Rattle.condition.proofs.Values.{pairing-below, valued-alive}
-use Rattle.condition.proofs.Turn.{turn-outside, turn-stays, turn-loses, turn-raises}
+use Rattle.condition.proofs.Places.{outside-stays, zero-stays, other-loses, pivot-raised}
 
 module _ {q k w l : ℕ} (s : Shaped q k w l) (h : 1 < q) where
   abbrev F : Ops
@@ -61,12 +61,12 @@ module _ {q k w l : ℕ} (s : Shaped q k w l) (h : 1 < q) where
   elt-zero : (x : ℕ) → x < q → e x ≡ e 0 → x ≡ 0
   elt-zero x l z = sym (mod-eq-of-lt l) ∙ ap (λ a. a .0) z ∙ zero-mod q
 
-  -- the share that a curve loses, in the field
-  elt-share : (v over : ℕ) → e (share q over v) ≡ neg F (F .mul (e v) (e over))
-  elt-share v over = elt-neg (times q v over) ∙ ap (neg F) (H .mul v over)
+  -- the ratio by which a curve loses, in the field
+  elt-ratio : (v over : ℕ) → e (ratio q over v) ≡ neg F (F .mul (e v) (e over))
+  elt-ratio v over = H .mul v _ ∙ ap (F .mul (e v)) (elt-neg over) ∙ mul-neg F L (e v) (e over)
 
-  share-none : (over : ℕ) → e (share q over 0) ≡ F .nil
-  share-none over = elt-share 0 over ∙ ap (neg F) (nil-mul F L (e over)) ∙ sym (L .add-nil (neg F (F .nil))) ∙ neg-add F L (F .nil)
+  ratio-none : (over : ℕ) → e (ratio q over 0) ≡ F .nil
+  ratio-none over = H .mul 0 (minus q 0 over) ∙ nil-mul F L (e (minus q 0 over))
 
   elt-inverse : (v : ℕ) → ¬ (v ≡ 0) → v < q → F .mul (e v) (e (inverse (ops q) v)) ≡ F .one
   elt-inverse v n l =
@@ -117,7 +117,7 @@ module _ {q k w l : ℕ} (s : Shaped q k w l) (h : 1 < q) where
         raise-at : (i t : ℕ) → In S i t → view q h k w l work′ p i t ≡ raised F c (view q h k w l work p) i t
         unfolding moved
         raise-at i t v =
-            ap e (turn-raises q k w l p over (minus q 0 α) gone W U t i (omega (arith, v .column)) (v .inside)) ∙ H .add _ _
+            ap e (pivot-raised q k w l p over (minus q 0 α) gone W U t i (omega (arith, v .column)) (v .inside)) ∙ H .add _ _
             ∙ ap₂ (F .add) (last i) (H .mul _ _ ∙ ap₂ (F .mul) (elt-neg α) (here i))
           where
             here : (i : ℕ) → e (getD work (p * slot w l + t * w + i) 0) ≡ view q h k w l work p i t
@@ -128,15 +128,15 @@ module _ {q k w l : ℕ} (s : Shaped q k w l) (h : 1 < q) where
             last (suc i) = here i
 
         reduce-at : (j : ℕ) → j < l + 1 → ¬ (j ≡ p) → (i t : ℕ) → In S i t →
-            view q h k w l work′ j i t ≡ mix F (view q h k w l work j) (e (share q over (getD values j 0))) (view q h k w l work p) i t
+            view q h k w l work′ j i t ≡ mix F (view q h k w l work j) (e (ratio q over (getD values j 0))) (view q h k w l work p) i t
         reduce-at j u n i t v =
             let A = view q h k w l work j i t in
             let B = view q h k w l work p i t in
             by-cases (ℕ-discrete (getD values j 0) 0)
-            (λ z. ap e (turn-stays q k w l p over (minus q 0 α) gone W U j t i n (other j n ∙ z) (omega (arith, v .column)) (omega (arith, v .inside)))
-            ∙ sym (ap (F .add A) (ap (λ a. F .mul a B) (ap (λ (x : ℕ). e (share q over x)) z ∙ share-none over) ∙ nil-mul F L B) ∙ L .add-nil A))
-            (λ z. ap e (turn-loses q k w l p over (minus q 0 α) gone W U j t i u n (λ y. z (sym (other j n) ∙ y)) (omega (arith, v .column)) (v .inside))
-            ∙ H .add _ _ ∙ ap (F .add A) (H .mul _ _ ∙ ap (λ (x : ℕ). F .mul (e (share q over x)) B) (other j n)))
+            (λ z. ap e (zero-stays q k w l p over (minus q 0 α) gone W U j t i n (other j n ∙ z) (omega (arith, v .column)) (omega (arith, v .inside)))
+            ∙ sym (ap (F .add A) (ap (λ a. F .mul a B) (ap (λ (x : ℕ). e (ratio q over x)) z ∙ ratio-none over) ∙ nil-mul F L B) ∙ L .add-nil A))
+            (λ z. ap e (other-loses q k w l p over (minus q 0 α) gone W U j t i u n (λ y. z (sym (other j n) ∙ y)) (omega (arith, v .column)) (v .inside))
+            ∙ H .add _ _ ∙ ap (F .add A) (H .mul _ _ ∙ ap (λ (x : ℕ). F .mul (e (ratio q over x)) B) (other j n)))
 
         pivot-is : Pivot F S c p (λ j. getD leads j 0) (view q h k w l work) (λ j. getD (set leads p (getD leads p 0 + 1)) j 0) (view q h k w l work′)
         pivot-is = record {
@@ -146,9 +146,9 @@ module _ {q k w l : ℕ} (s : Shaped q k w l) (h : 1 < q) where
           grow = getD-set-same leads p _ 0 fits ∙ add-one _;
           stay = λ j u n. getD-set-other leads p j _ 0 n;
           raise = λ _ i t v. raise-at i t v;
-          ratio = λ j. e (share q over (getD values j 0));
-          clears = λ j v n. ap₂ (λ a b. F .add a (F .mul (e (share q over (getD values j 0))) b)) (sym (value-is j v)) (sym (value-is p (P .alive)))
-              ∙ ap (λ a. F .add (e (getD values j 0)) (F .mul a (e (getD values p 0)))) (elt-share (getD values j 0) over)
+          ratio = λ j. e (ratio q over (getD values j 0));
+          clears = λ j v n. ap₂ (λ a b. F .add a (F .mul (e (ratio q over (getD values j 0))) b)) (sym (value-is j v)) (sym (value-is p (P .alive)))
+              ∙ ap (λ a. F .add (e (getD values j 0)) (F .mul a (e (getD values p 0)))) (elt-ratio (getD values j 0) over)
               ∙ clears F L (e (getD values j 0)) (e (getD values p 0)) (e over)
               (ap (λ (x : ℕ). F .mul (e (getD values p 0)) (e x)) o ∙ elt-inverse _ (P .some) (rw (G p (P .alive)) (pairing-below s x y _)));
           reduce = λ j v n i t u. reduce-at j (omega (arith, v .column)) n i t u;
@@ -157,19 +157,19 @@ module _ {q k w l : ℕ} (s : Shaped q k w l) (h : 1 < q) where
         small-at : (j t i : ℕ) → j ≤ l → t ≤ l → i < w → getD work′ (j * slot w l + place w t i) 0 < q
         small-at j t i u v b = by-cases (decLt (i + t * (k - 1)) w)
             (λ g. by-cases (ℕ-discrete j p)
-            (λ z. rw (z, turn-raises q k w l p over (minus q 0 α) gone W U t i (omega arith) g) (plus-below q (s .field) _ _))
+            (λ z. rw (z, pivot-raised q k w l p over (minus q 0 α) gone W U t i (omega arith) g) (plus-below q (s .field) _ _))
             (λ n. by-cases (ℕ-discrete (getD values j 0) 0)
-            (λ z. rw (turn-stays q k w l p over (minus q 0 α) gone W U j t i n (other j n ∙ z) (omega arith) b) (K .small j t i u v b))
-            (λ z. rw (turn-loses q k w l p over (minus q 0 α) gone W U j t i (omega arith) n (λ y. z (sym (other j n) ∙ y)) (omega arith) g)
+            (λ z. rw (zero-stays q k w l p over (minus q 0 α) gone W U j t i n (other j n ∙ z) (omega arith) b) (K .small j t i u v b))
+            (λ z. rw (other-loses q k w l p over (minus q 0 α) gone W U j t i (omega arith) n (λ y. z (sym (other j n) ∙ y)) (omega arith) g)
             (plus-below q (s .field) _ _))))
-            (λ g. rw (turn-outside q k w l p over (minus q 0 α) gone W U j t i (omega arith) b (omega arith)) (K .small j t i u v b))
+            (λ g. rw (outside-stays q k w l p over (minus q 0 α) gone W U j t i (omega arith) b (omega arith)) (K .small j t i u v b))
 
         pub kept-step : Kept q h k w l (cs ++ (c ∷ [])) (set leads p (getD leads p 0 + 1)) work′
         kept-step = record {
           basis = step F L S (K .basis) R pivot-is;
           least = least-step F L S (K .least) (K .basis) R pivot-is;
           small = small-at;
-          clear = λ j t i u v b g. turn-outside q k w l p over (minus q 0 α) gone W U j t i (omega arith) b g ∙ K .clear j t i u v b g;
+          clear = λ j t i u v b g. outside-stays q k w l p over (minus q 0 α) gone W U j t i (omega arith) b g ∙ K .clear j t i u v b g;
         }
 
 module _ {q k w l : ℕ} (s : Shaped q k w l) (α : ℕ) (x y leads work values : List ℕ) (fit : Fit k w l leads)

@@ -1,5 +1,5 @@
 -- The lemmas of the crate, each file after those that it rests on.
 pub mod Scan
 pub mod Values
-pub mod Turn
+pub mod Places
 pub mod Keep

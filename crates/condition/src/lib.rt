@@ -14,7 +14,7 @@ use symbols::inv;
 use weights::value;
 
 // The values of a condition at the curves that are alive, and 0 for the others. x and y are its weights.
-pub fn evaluate(
+fn evaluate(
     q: u16,
     k: usize,
     w: usize,

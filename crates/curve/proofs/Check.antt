@@ -10,7 +10,7 @@ use Rattle.rules.specs.Field.{Ops, ops, modulus, alike}
 use Rattle.rules.specs.Code.{Triple, zeros}
 use Rattle.rules.specs.Curve.{total, coefficient, weighted, hasse, through, passes}
 use Rattle.rules.specs.Refusal.{under}
-use Rattle.rules.proofs.Tests.{both}
+use Rattle.rules.proofs.Tests.{both, test-false}
 use Rattle.algebra.specs.Conditions.{Condition, condition, carry}
 use Rattle.algebra.specs.Space.{space, value}
 use Rattle.algebra.proofs.Bridge.{coefficient-hom, hasse-hom, weighted-hom}
@@ -23,7 +23,7 @@ use Rattle.demands.proofs.Link.{elt-hom}
 use Rattle.runs.specs.Runs.{blank}
 use Rattle.runs.proofs.Places.{zeros-blank}
 use Rattle.multiplicity.specs.Met.{met}
-use Rattle.multiplicity.proofs.Tests.{test-false, below-same}
+use Rattle.multiplicity.proofs.Tests.{below-same}
 
 module _ (q k w l : ℕ) (c : List ℕ) (m : T (modulus q)) where
   abbrev h : 1 < q

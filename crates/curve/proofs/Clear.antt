@@ -11,12 +11,11 @@ use Rattle.rules.specs.Lists.{all}
 use Rattle.rules.specs.Field.{ops, alike}
 use Rattle.rules.specs.Curve.{coefficient, weighted}
 use Rattle.rules.specs.Refusal.{under}
-use Rattle.rules.proofs.Tests.{both, below-at, below-of, or-else}
+use Rattle.rules.proofs.Tests.{both, below-at, below-of, or-else, test-true, test-false}
 use Rattle.prime.proofs.Below.{alike-zero, alike-itself}
 use Rattle.buffers.proofs.Part.{len-mid, at-mid}
 use Rattle.runs.specs.Runs.{blank}
 use Rattle.runs.proofs.Places.{zero-test, blank-of, blank-at}
-use Rattle.multiplicity.proofs.Tests.{test-true, test-false}
 
 -- a number below q stands for zero only where it is 0
 alike-at : (q : ℕ) (c : List ℕ) (i : ℕ) → T (under q c) → alike q (getD c i 0) 0 ≡ eqb (getD c i 0) 0

@@ -7,8 +7,7 @@ use lib.ListN.{length, take, replicate, getD, length-replicate, getD-replicate}
 use Rattle.rules.specs.Code.{triples}
 use Rattle.algebra.specs.Conditions.{conditions}
 use Rattle.algebra.proofs.Plan.{count-triples}
-use Rattle.weights.specs.Triples.{tripled}
-use Rattle.weights.specs.Triples.{Checkable}
+use Rattle.weights.specs.Triples.{Checkable, tripled}
 use Rattle.weights.proofs.Triples.{tripled-triples}
 use Rattle.engine.specs.Word.{Worded}
 

@@ -1,28 +1,20 @@
 -- What the trial division of is_modulus shows: a number with no divisor up to its square root is prime.
-use mathlib.Core.Path.{_≡_, refl, sym, ap, _∙_}
-use mathlib.Core.Bool.{Bool, true, false}
+use mathlib.Core.Path.{_≡_, sym, ap, _∙_}
+use mathlib.Core.Bool.{true, false}
 use mathlib.Core.Logic.{⊎-elim}
 use Prim.Native.Nat.{ℕ, zero, suc, _*_, _/_, _%_, _≤_, _<_}
 use native.Mathlib.Nat.{div-add-mod, mul-le-mul, mul-le-mul-right, mul-mod-left, mul-zero, mul-one}
 use native.Mathlib.Omega.{arith}
-use lib.Dec.{T}
 use Rattle.rules.specs.Field.{modulus}
+use Rattle.rules.proofs.Tests.{test-true, test-false}
 use Rattle.prime.proofs.Tests.{Prime, modulus-says, modulus-if}
 use Rattle.buffers.proofs.Change.{lt-or-ge}
 
-true-is : (b : Bool) → T b → true ≡ b
-true-is true t = refl
-true-is false t = absurd t
-
-false-is : (b : Bool) → ¬ (T b) → false ≡ b
-false-is true f = absurd (f tt)
-false-is false f = refl
-
 pub prime-is : (p : ℕ) → Prime p → true ≡ modulus p
-prime-is p h = true-is (modulus p) (modulus-if p h)
+prime-is p h = test-true (modulus p) (modulus-if p h)
 
 pub prime-not : (p : ℕ) → ¬ (Prime p) → false ≡ modulus p
-prime-not p f = false-is (modulus p) (λ t. f (modulus-says p t))
+prime-not p f = test-false (modulus p) (λ t. f (modulus-says p t))
 
 -- no number from 2 to below d divides p
 abbrev pub Tried : ℕ → ℕ → Type 0

@@ -4,14 +4,7 @@ use mathlib.Core.Bool.{Bool, true, false, not}
 use Prim.Native.Nat.{ℕ, _<_}
 use lib.Dec.{T}
 use Rattle.rules.specs.Lists.{below, all}
-use Rattle.rules.proofs.Tests.{below-at, below-of, same-test}
-
--- the answer that a loop gives at its end, and where it stops
-pub test-true : (b : Bool) → T b → true ≡ b
-test-true b t = same-test true b (λ s. t) (λ s. tt)
-
-pub test-false : (b : Bool) → ¬ (T b) → false ≡ b
-test-false b n = same-test false b (λ s. absurd s) (λ s. absurd (n s))
+use Rattle.rules.proofs.Tests.{below-at, below-of, same-test, test-true, test-false}
 
 -- what a test says that is asked with a `not` before it
 pub said-yes : (r b : Bool) → not r ≡ false → r ≡ b → T b
@@ -22,6 +15,7 @@ pub said-no : (r b : Bool) → not r ≡ true → r ≡ b → ¬ (T b)
 said-no true b e f t = subst T (sym e) tt
 said-no false b e f t = subst T (sym f) t
 
+-- the answer that a loop gives at its end, and where it stops
 module _ (test : ℕ → Bool) (n : ℕ) where
   pub below-true : ((i : ℕ) → i < n → T (test i)) → true ≡ all test (below n)
   below-true h = test-true (all test (below n)) (below-of test n h)

@@ -8,15 +8,11 @@ use lib.Dec.{eqb, leb, ltb}
 use lib.ListN.{length, getD}
 use borrow.Author.Tests.{lt-ltb, le-ltb, le-leb, lt-leb, eq-eqb, ne-eqb, leb-true, eqb-true, ltb-false, not-false}
 use Rattle.rules.specs.Patch.{pairs, length-fits, length-of, size, kind, broken}
-use Rattle.rules.proofs.Tests.{either}
+use Rattle.rules.proofs.Tests.{either, neither}
 
 and-true : (a b : Bool) → a && b ≡ true → (a ≡ true) × (b ≡ true)
 and-true true b e = (refl, e)
 and-true false b e = absurd (let z : _≡_ {A = ℕ} 0 1 = cc in omega arith)
-
-or-false : (a b : Bool) → a || b ≡ false → (a ≡ false) × (b ≡ false)
-or-false true b e = absurd (let z : _≡_ {A = ℕ} 0 1 = cc in omega arith)
-or-false false b e = (refl, e)
 
 pub none-stated : (b : List ℕ) → length b < 2 → 0 ≡ length-of b
 unfolding length-of pairs
@@ -93,7 +89,7 @@ module _ (b : List ℕ) (w : broken b ≡ false) where
   whole-tests : ((not (length-fits (length-of b)) ≡ false) × (ltb (length b) (2 + length-of b) ≡ false))
       × (eqb (kind b) 1 && not (eqb (length-of b) 12) ≡ false)
   unfolding broken
-  whole-tests = let h = or-false (not (length-fits (length-of b)) || ltb (length b) (2 + length-of b)) _ w in (or-false _ _ (h .0), h .1)
+  whole-tests = let h = neither (not (length-fits (length-of b)) || ltb (length b) (2 + length-of b)) _ w in (neither _ _ (h .0), h .1)
 
   pub whole-long : (2 ≤ length-of b) × (2 + length-of b ≤ length b)
   whole-long = (fits-bounds (length-of b) (not-false _ (whole-tests .0 .0)) .0, ltb-false (length b) (2 + length-of b) (whole-tests .0 .1))

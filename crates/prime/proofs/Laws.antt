@@ -1,7 +1,7 @@
 -- The numbers below a number q that names a field are a field with the operations of rules: once for every q.
 use mathlib.Core.Path.{_≡_, sym, _∙_, ap, subst}
 use mathlib.Core.Bool.{not}
-use mathlib.Core.List.{List, map, List·Memᴰ, List·Memᴰ·head, List·Memᴰ·tail, Memᴰ·cast}
+use mathlib.Core.List.{map, List·Memᴰ, Memᴰ·cast}
 use Prim.Native.Nat.{ℕ, zero, suc, _+_, _-_, _*_, _%_, _≤_, _<_, Fin}
 use native.Mathlib.Nat.{mod-eq-of-lt, mod-mod, zero-mod, mod-add-mod, add-mod-mod, add-mod-right, add-comm, add-assoc, add-zero, mul-comm, mul-assoc, mul-add, mul-one, pos-of-ne-zero}
 use native.Mathlib.Decide.{Fin·val-path}
@@ -10,15 +10,11 @@ use lib.Dec.{T, not-T, eqb→eq, eqb-refl}
 use Rattle.rules.specs.Lists.{from, below, all, distinct}
 use Rattle.rules.specs.Field.{Ops, ops, plus, minus, times, image, alike, modulus, inverse}
 use Rattle.rules.specs.Laws.{Laws}
-use Rattle.rules.proofs.Tests.{and, pick-mem, from-mem}
+use Rattle.rules.proofs.Tests.{and, pick-mem, map-mem, from-mem}
 use Rattle.prime.specs.Field.{value, elt, field}
 use Rattle.prime.proofs.Mod.{mul-mod-left, mul-mod-right}
 use Rattle.prime.proofs.Tests.{modulus-says}
 use Rattle.prime.proofs.Inverse.{inverse-is}
-
-map-mem : {A B : Type 0} (φ : A → B) {x : A} {xs : List A} → List·Memᴰ x xs → List·Memᴰ (φ x) (map φ xs)
-map-mem φ (List·Memᴰ·head e) = List·Memᴰ·head (ap φ e)
-map-mem φ (List·Memᴰ·tail m) = List·Memᴰ·tail (map-mem φ m)
 
 module _ (q : ℕ) (h : 1 < q) where
   abbrev F : Ops

@@ -8,11 +8,8 @@ use native.Mathlib.Omega.{arith}
 use lib.Dec.{T, eqb, ltb}
 use borrow.Author.Tests.{eq-eqb, ne-eqb, ltb-false}
 use Rattle.rules.specs.Refusal.{Cause, _if_, lowest}
+use Rattle.rules.proofs.Tests.{neither}
 use Rattle.rules.proofs.Lowest.{named, here, later, lowest-none, first-refuses, first-accept, none-first, none-parts}
-
-neither : (b c : Bool) → b || c ≡ false → (b ≡ false) × (c ≡ false)
-neither true c e = absurd (let z : _≡_ {A = ℕ} 0 1 = cc in omega arith)
-neither false c e = (refl, e)
 
 -- two rooms, x numbers of a buffer of a and y of b; and three
 pub two-rooms : (a x b y : ℕ) → ltb a x || ltb b y ≡ false → (x ≤ a) × (y ≤ b)

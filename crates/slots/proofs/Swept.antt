@@ -5,13 +5,15 @@ use mathlib.Core.List.{List}
 use Prim.Native.Nat.{ℕ, _+_, _-_, _*_, _<_}
 use native.Mathlib.Decide.{ℕ-discrete}
 use native.Mathlib.Omega.{arith}
+use lib.Dec.{T}
 use lib.ListN.{getD}
-use Rattle.rules.specs.Field.{plus, times}
+use Rattle.rules.specs.Field.{plus, minus, times, modulus}
 use Rattle.algebra.proofs.Rank.{digit-eq}
+use Rattle.prime.proofs.Below.{times-below, plus-from-zero}
 use Rattle.buffers.proofs.Change.{lt-or-ge}
 use Rattle.buffers.proofs.Rows.{row-fits}
 use Rattle.within.specs.Runs.{Runs-apart}
-use Rattle.slots.specs.Slot.{slot, place, share, mixed-at, Treated, Swept}
+use Rattle.slots.specs.Slot.{slot, place, ratio, mixed-at, Treated, Swept}
 
 -- two slots have no place in common
 pub slots-apart : (s : ℕ) {j p : ℕ} → ¬ (j ≡ p) → Runs-apart (p * s) (j * s) s
@@ -28,6 +30,10 @@ slot-eq w l {j} {j′} {t} {t′} {i} {i′} a b c d e = digit-eq (slot w l) j (
 pub place-eq : (w at : ℕ) {t t′ i i′ : ℕ} → i < w → i′ < w → at + place w t i ≡ at + place w t′ i′ → (t ≡ t′) × (i ≡ i′)
 place-eq w at {t} {t′} {i} {i′} a b e = digit-eq w t i t′ i′ a b (omega arith)
 
+-- the ratio, where minus `over` is at hand
+pub ratio-is : (q over v : ℕ) {less : ℕ} → T (modulus q) → less ≡ minus q 0 over → plus q 0 (times q v less) ≡ ratio q over v
+ratio-is q over v m e = plus-from-zero q _ (times-below q m v _) ∙ ap (times q v) e
+
 module _ (q k w l p over : ℕ) (values d : List ℕ) where
   pub swept-none : Swept q k w l p over values 0 d d
   swept-none = record { len = refl; new = λ j t i u. absurd (omega arith); keep = λ m h. refl }
@@ -41,9 +47,9 @@ module _ (q k w l p over : ℕ) (values d : List ℕ) where
       keep = λ m h. S .keep m (λ j t i u. h j t i (omega arith));
     }
 
-    -- a curve that loses its share; the value of p is zero, so p has stayed
+    -- a curve that loses by its ratio; the value of p is zero, so p has stayed
     pub swept-more : (c : ℕ) {from to : ℕ} {e′ : List ℕ} → from ≡ p * slot w l → to ≡ n * slot w l → getD values p 0 ≡ 0 → ¬ (getD values n 0 ≡ 0) →
-        c ≡ share q over (getD values n 0) →
+        c ≡ ratio q over (getD values n 0) →
         Treated (mixed-at q c w e from to) to k w (l + 1) e e′ → Swept q k w l p over values (n + 1) d e′
     swept-more c {from} {to} {e′} f g z v s T₀ = record {
       len = T .len ∙ S .len;

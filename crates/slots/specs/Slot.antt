@@ -33,15 +33,15 @@ pub record Started (w l : ℕ) (e : List ℕ) : Type 0 where
   pub one : (j : ℕ) → j < l + 1 → getD e (j * slot w l + place w j 0) 0 ≡ 1
   pub none : (m : ℕ) → m < (l + 1) * slot w l → ((j : ℕ) → j < l + 1 → ¬ (m ≡ j * slot w l + place w j 0)) → getD e m 0 ≡ 0
 
--- minus v times `over`
-abbrev pub share : ℕ → ℕ → ℕ → ℕ
-share q over v = minus q 0 (times q v over)
+-- v times minus `over`: where `over` is the inverse of a curve's value, so much of that curve takes the value v to zero
+abbrev pub ratio : ℕ → ℕ → ℕ → ℕ
+ratio q over v = times q v (minus q 0 over)
 
 -- e is d but for the terms of the space in those of the first n curves whose value is not zero: these lose their value times `over` of curve p
 pub record Swept (q k w l p over : ℕ) (values : List ℕ) (n : ℕ) (d e : List ℕ) : Type 0 where
   pub len : length e ≡ length d
   pub new : (j t i : ℕ) → j < n → ¬ (getD values j 0 ≡ 0) → t < l + 1 → i + t * (k - 1) < w →
-      getD e (j * slot w l + place w t i) 0 ≡ mixed-at q (share q over (getD values j 0)) w d (p * slot w l) (j * slot w l) t i
+      getD e (j * slot w l + place w t i) 0 ≡ mixed-at q (ratio q over (getD values j 0)) w d (p * slot w l) (j * slot w l) t i
   pub keep : (m : ℕ) → ((j t i : ℕ) → j < n → ¬ (getD values j 0 ≡ 0) → t < l + 1 → i + t * (k - 1) < w → ¬ (m ≡ j * slot w l + place w t i)) →
       getD e m 0 ≡ getD d m 0
 

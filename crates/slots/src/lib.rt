@@ -7,7 +7,8 @@ ghost use Rattle.within.specs.Runs.{Runs-apart};
 ghost use Rattle.weights.specs.Shape.{Shaped};
 ghost use Rattle.slots.specs.Slot.{slot, mixed-at, raised-at, Treated, Started, Swept};
 use runs::clear;
-use symbols::mul;
+use symbols::mixed_by;
+use symbols::reciprocal;
 use symbols::sub;
 use within::add_within;
 use within::shift_add;
@@ -39,16 +40,7 @@ pub fn start(q: u16, k: usize, w: usize, l: usize, work: &mut [u16])
 }
 
 // The curve from `to` on becomes itself plus c times the curve from `from` on.
-pub fn reduce(
-    q: u16,
-    k: usize,
-    w: usize,
-    l: usize,
-    c: u16,
-    work: &mut [u16],
-    from: usize,
-    to: usize,
-)
+fn reduce(q: u16, k: usize, w: usize, l: usize, c: u16, work: &mut [u16], from: usize, to: usize)
     requires { ⌜ Shaped q k w l × Runs-apart from to (slot w l) × (from + slot w l ≤ length (now work)) × (to + slot w l ≤ length (now work)) ⌝ }
     ensures { λ _. ⌜ Treated (mixed-at q c w (now (work .entry)) from to) to k w (l + 1) (now (work .entry)) (now (work .exit)) ⌝ }
 {
@@ -96,12 +88,14 @@ pub fn sweep(
 {
     let s = room(q, k, w, l);
     let from = p * s;
+    let m = reciprocal(q);
+    let less = sub(q, 0, over);
     let mut j: usize = 0;
     let mut at: usize = 0;
     while j <= l {
         let v = values[j];
         if v != 0 {
-            let c = sub(q, 0, mul(q, v, over));
+            let c = mixed_by(q, m, 0, v, less);
             reduce(q, k, w, l, c, work, from, at);
         }
         at += s;

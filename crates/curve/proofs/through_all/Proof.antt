@@ -4,8 +4,9 @@ use native.Mathlib.Omega.{arith}
 use lib.Dec.{T}
 use lib.ListN.{length}
 use borrow.Author.Count.{below-more}
+use Rattle.rules.proofs.Tests.{test-true, test-false}
 use Rattle.multiplicity.specs.Met.{met}
-use Rattle.multiplicity.proofs.Tests.{test-true, test-false, said-yes, said-no}
+use Rattle.multiplicity.proofs.Tests.{said-yes, said-no}
 use Rattle.weights.proofs.Triples.{triple-at, tripled-of, tripled-at}
 use borrow.Author.Needs.{needs}
 use Rattle.curve.proofs.through_all.Statement.{statement}

@@ -3,21 +3,21 @@ use mathlib.Core.Path.{_≡_, _∙_, ap}
 use mathlib.Core.Logic.{inl, inr, ⊎-elim}
 use Prim.Native.Nat.{ℕ, _+_, _-_, _*_, _≤_}
 use lib.ListN.{getD}
-use Rattle.rules.specs.Field.{minus}
+use Rattle.prime.proofs.Below.{modulus-two}
 use Rattle.buffers.proofs.Rows.{row-end, row-fits}
 use Rattle.slots.specs.Slot.{slot, Swept}
-use Rattle.slots.proofs.Swept.{slots-apart, swept-none, swept-skip, swept-more}
+use Rattle.slots.proofs.Swept.{slots-apart, ratio-is, swept-none, swept-skip, swept-more}
 use native.Mathlib.Omega.{arith}
 use borrow.Author.Needs.{needs}
 use Rattle.slots.proofs.sweep.Statement.{statement}
 use Rattle.slots.proofs.sweep.Tie as tie
 
 abbrev Inv-loop : tie.InvT-loop
-Inv-loop q k w l p over values work₀ s from j₀ at₀ work j at = (j ≤ l + 1) × (at ≡ j * slot w l) × (s ≡ slot w l) × (from ≡ p * slot w l)
+Inv-loop q k w l p over values work₀ s from m less j₀ at₀ work j at = (j ≤ l + 1) × (at ≡ j * slot w l) × (s ≡ slot w l) × (from ≡ p * slot w l)
     × Swept q k w l p over values j work₀ work
 
 abbrev μ-loop : tie.MeasureT-loop
-μ-loop q k w l p over values work₀ s from j₀ at₀ work j at = l + 1 - j
+μ-loop q k w l p over values work₀ s from m less j₀ at₀ work j at = l + 1 - j
 
 room-requires : tie.Need-room-requires Inv-loop μ-loop
 room-requires c κs = search needs
@@ -27,12 +27,18 @@ mul-from c =
     let a = c .before .before .before .args in
     omega (arith, ap (λ (x : ℕ). a .p * x) (c .room .ensures), row-fits {t = a .p} {n = a .l + 1} (slot (a .w) (a .l)) (omega arith))
 
+reciprocal-requires : tie.Need-reciprocal-requires Inv-loop μ-loop
+reciprocal-requires c κs = let start = c .before .before .before in omega (arith, modulus-two (start .args .q) (start .pre .0 .field))
+
+sub-requires : tie.Need-sub-requires Inv-loop μ-loop
+sub-requires c κs = search needs
+
 loop-holds : tie.Need-loop-holds Inv-loop μ-loop
 loop-holds c = (
   search needs,
   search needs,
-  c .room .ensures,
-  ap (λ (x : ℕ). c .before .before .before .args .p * x) (c .room .ensures),
+  c .before .before .room .ensures,
+  ap (λ (x : ℕ). c .before .before .before .before .before .args .p * x) (c .before .before .room .ensures),
   swept-none _ _ _ _ _ _ _ _,
 )
 
@@ -42,17 +48,14 @@ mul-v c = search needs
 shared-slice-read-v : tie.Need-shared-slice-read-v Inv-loop μ-loop
 shared-slice-read-v c = search needs
 
-mul-requires : tie.Need-mul-requires Inv-loop μ-loop
-mul-requires c κs = search needs
-
-sub-requires : tie.Need-sub-requires Inv-loop μ-loop
-sub-requires c κs = search needs
+mixed-by-requires : tie.Need-mixed-by-requires Inv-loop μ-loop
+mixed-by-requires c κs = search needs
 
 reduce-requires : tie.Need-reduce-requires Inv-loop μ-loop
 reduce-requires c κs =
-    let at-if1 = c .before .before .before in
+    let at-if1 = c .before .before in
     let at-loop = at-if1 .before .before .before in
-    let start = at-loop .before .before .before .before in
+    let start = at-loop .before .before .before .before .before .before in
     let a = start .args in
     let o = at-loop .loop in
     let s = slot (a .w) (a .l) in
@@ -64,7 +67,7 @@ reduce-requires c κs =
 add-at : tie.Need-add-at Inv-loop μ-loop
 add-at c =
     let at-loop = c .before .before .before in
-    let start = at-loop .before .before .before .before in
+    let start = at-loop .before .before .before .before .before .before in
     let a = start .args in
     omega (
       arith,
@@ -83,7 +86,7 @@ loop-less c = search needs
 loop-again : tie.Need-loop-again Inv-loop μ-loop
 loop-again c =
     let at-loop = c .before .before .before in
-    let start = at-loop .before .before .before .before in
+    let start = at-loop .before .before .before .before .before .before in
     let a = start .args in
     let o = at-loop .loop in (
       search needs,
@@ -91,8 +94,8 @@ loop-again c =
       o .inv .2,
       o .inv .3,
       ⊎-elim
-          (λ x. rw (x .7) (swept-more _ _ _ _ _ _ _ _ (o .inv .4) _ (o .inv .3) (o .inv .1) (start .pre .3) (x .0 .taken)
-          (x .2 .ensures ∙ ap (λ (v : ℕ). minus (a .q) 0 v) (x .1 .ensures)) (x .4 .ensures)))
+          (λ x. rw (x .6) (swept-more _ _ _ _ _ _ _ _ (o .inv .4) _ (o .inv .3) (o .inv .1) (start .pre .3) (x .0 .taken)
+          (x .1 .ensures ∙ ratio-is (a .q) (a .over) (getD (a .values .now) (o .j) 0) (start .pre .0 .field) (at-loop .before .sub .ensures)) (x .3 .ensures)))
           (λ x. rw (x .1) (swept-skip _ _ _ _ _ _ _ _ (o .inv .4) (x .0 .left)))
           (c .if1 .came),
     )
@@ -101,7 +104,7 @@ same-length : tie.Need-same-length Inv-loop μ-loop
 same-length c = search needs
 
 returns : tie.Need-returns Inv-loop μ-loop
-returns c = let o = c .before .loop in let z : o .j ≡ c .before .before .before .before .before .args .l + 1 = omega arith in rw z at (o .inv .4)
+returns c = let o = c .before .loop in let z : o .j ≡ c .before .before .before .before .before .before .before .args .l + 1 = omega arith in rw z at (o .inv .4)
 
 pub sweep-spec : {M : Type 1} → statement M
 sweep-spec =
@@ -111,11 +114,12 @@ sweep-spec =
     μ-loop
     room-requires
     mul-from
+    reciprocal-requires
+    sub-requires
     loop-holds
     mul-v
     shared-slice-read-v
-    mul-requires
-    sub-requires
+    mixed-by-requires
     reduce-requires
     add-at
     add-j
