@@ -16,4 +16,4 @@ def table(plan):
     for name, kind, symbol in ("passed over (11)", 9, 0), ("word refused for a symbol (6)", 3, SETTING.p):
         seconds = programs.measured(plan.commands(), unread(SETTING, kind, symbol, count), plan, name)
         yield row([name, *map(micro, seconds), *([] if plan.second else ["—"])])
-    yield "\nFor both our program reads the record and prints a line; no buffer is made or cleared. For the refused word it also tests the setting, the points and the word."
+    yield "\nFor both our program makes 132 bytes, reads the record into them and prints a line. For the refused word it also makes 64 numbers, and tests the setting, the points and the word. The buffers in which words are read are made once, and cleared for neither."

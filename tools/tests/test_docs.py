@@ -1,7 +1,6 @@
 # Whether what the documents name is there: statements declared in their files, fields in their records, edits, crates.
 import re
 import unittest
-from collections import Counter
 from pathlib import Path
 
 TOP = Path(__file__).resolve().parents[2]
@@ -57,6 +56,26 @@ def placed(column):
         yield name, path
 
 
+def own_crate(call):
+    """The crate of a row's calls: that of `crate::call`, of the exported calls, or of the program."""
+    return next(filter(None, re.search(r"`(\w+)::|`(whitebeamish)_|the (\w+) program", call).groups()))
+
+
+def shut_out(row):
+    """Each edit that the row's last cell names in brackets, with its crate: that of "in crates/X:" before it, or else the calls' own."""
+    crate = own_crate(row[0])
+    for place, group in re.findall(r"in crates/(\w+):|\(([^()]*`[^()]*)\)", row[3]):
+        crate = place or crate
+        yield from ((crate, edit) for edit in named(group))
+
+
+def said_below(paragraph):
+    """Each edit of a paragraph, with its crate: where that is in brackets it is said before its edits, and else behind them."""
+    ahead = re.search(r"\(crates/(\w+)/must-fail\):(.*)", paragraph)
+    parts = [ahead.groups()] if ahead else [(crate, part) for part, crate in re.findall(r"(.*?) in crates/(\w+)/must-fail", paragraph)]
+    return [(crate, edit) for crate, part in parts for edit in named(part)]
+
+
 def edits():
     return sorted(TOP.glob("crates/*/must-fail/*.edit"))
 
@@ -71,12 +90,15 @@ class Documents(unittest.TestCase):
         self.assertGreater(len(names), 20)
         self.assertEqual([(name, path) for name, path in names if not declares(text("crates", path), name)], [])
 
-    def test_each_edit_is_named_and_each_named_edit_is_there(self):
-        there = Counter(edit.stem for edit in edits())
-        words = Counter(named(text("docs/STATEMENTS.md")))
-        in_brackets = [group for row in cells("docs/STATEMENTS.md")[2:] for group in re.findall(r"\(([^()]*`[^()]*)\)", row[3])]
-        self.assertEqual(sorted(there - words), [], "an edit of two crates is named for each")
-        self.assertEqual(sorted({edit for group in in_brackets for edit in named(group)} - set(there)), [])
+    def test_each_edit_is_named_with_its_crate_and_each_named_edit_is_there(self):
+        there = {(edit.parents[1].name, edit.stem) for edit in edits()}
+        rows = [pair for row in cells("docs/STATEMENTS.md")[2:] for pair in shut_out(row)]
+        lines = [line for line in text("docs/STATEMENTS.md").splitlines() if not line.startswith("|")]
+        below = [pair for line in lines for pair in said_below(line)]
+        self.assertEqual(sorted({*rows, *below} - there), [])
+        self.assertEqual(sorted(there - {*rows, *below}), [])
+        exceptions = {edit for line in lines if line.startswith("- ") for edit in named(line)}
+        self.assertEqual(sorted(exceptions - {edit for _, edit in there}), [])
 
     def test_each_edit_changes_one_place(self):
         for edit in edits():
@@ -141,6 +163,17 @@ pub fn a_longer_name(given: u16) -> u16 {
         self.assertEqual(owned("`a` and `b`, of `R`, which `x` and `y` give"), [("a", "R"), ("b", "R")])
         self.assertEqual(owned("`a` of `R` and `S`"), [("a", "R"), ("a", "S")])
         self.assertEqual(owned("`x`: what is said of `y`"), [])
+
+    def test_an_edit_goes_with_the_crate_said_before_it_or_that_of_the_call(self):
+        cell = "so (`a`); not (`b`, `c`), `word`; in crates/x: this (`d`), that (`e`); in crates/y: other (`f`)"
+        pairs = {call: list(shut_out([call, "", "", cell])) for call in ("`m::f`, `m::g`", "`whitebeamish_sum`, `product`", "the patch program's `read_all`")}
+        for own, found in zip(("m", "whitebeamish", "patch"), pairs.values()):
+            self.assertEqual(found, [(own, "a"), (own, "b"), (own, "c"), ("x", "d"), ("x", "e"), ("y", "f")])
+
+    def test_an_edit_below_the_table_goes_with_its_crate(self):
+        self.assertEqual(said_below("There are `a`, `b` in crates/x/must-fail; one (`c`) in crates/y/must-fail."), [("x", "a"), ("x", "b"), ("y", "c")])
+        self.assertEqual(said_below("More (crates/x/must-fail): this (`a`). That (`b`)."), [("x", "a"), ("x", "b")])
+        self.assertEqual(said_below("Nothing of `a`."), [])
 
     def test_a_name_goes_with_the_file_behind_it_or_before(self):
         self.assertEqual(list(placed(["`a`, x/A.antt: so; `b`", "`c`, y/C.antt"])), [("a", "x/A.antt"), ("b", "x/A.antt"), ("c", "y/C.antt")])

@@ -1,5 +1,4 @@
-# The gate, .ci/run: with stand-ins for rt, cargo and the parts. Each part that fails makes it fail, parts run at the same time, and its last line is that of rt ci.
-import os
+# The gate, .ci/run: with stand-ins for rt, cargo and the parts. Each part that fails makes it fail, parts run at the same time and none beside rt, and its last line is that of rt ci.
 import shutil
 import signal
 import stat
@@ -14,10 +13,10 @@ from cases import TOP, until
 LAST = "7 passed, 0 failed"
 COMMANDS = "bash sh cat dirname mktemp rm sleep tail tee".split()
 
-# What each stand-in does, after it has said its name; FAILS names the one that fails.
-RT = f'echo "rt $*"; [ "$FAILS" != rt ] && echo "{LAST}" || {{ echo "6 passed, 1 failed"; exit 1; }}'
-CARGO = 'echo "cargo $* in ${PWD##*/}"; [ "$FAILS" != "cargo $1" ]'
-PART = 'echo "$0 $*"; {more}; [ "$FAILS" != "$0" ]'
+# What each stand-in does: it says its name, also at the end of the file SAID; FAILS names the one that fails.
+RT = f'echo "rt $*" | tee -a "$SAID"; [ "$FAILS" != "rt $1" ] && echo "{LAST}" || {{ echo "rt $1 failed"; exit 1; }}'
+CARGO = 'echo "cargo $* in ${PWD##*/}" | tee -a "$SAID"; [ "$FAILS" != "cargo $1" ] || { echo "cargo $1 failed"; exit 1; }'
+PART = 'echo "$0 $*" | tee -a "$SAID"; [ "$FAILS" != "$0" ]'
 TESTS = """import os, unittest
 class Test(unittest.TestCase):
     def test(self):
@@ -41,7 +40,7 @@ class Gate(unittest.TestCase):
         self.script("bin/rt", RT)
         self.script("bin/cargo", CARGO)
         for part in ("tools/compare", "tools/link", "bench/test"):
-            self.script(part, PART.format(more=":"))
+            self.script(part, PART)
 
     def script(self, name, text):
         file = self.top / name
@@ -50,11 +49,16 @@ class Gate(unittest.TestCase):
 
     def command(self, fails=""):
         """What runs the gate in the stand-in's folder, with no command but those that are put there."""
-        given = {"PATH": str(self.top / "bin"), "FAILS": fails, "SEED": "5", "TMPDIR": str(self.top)}
+        given = {"PATH": str(self.top / "bin"), "FAILS": fails, "SAID": str(self.top / "bin/said"), "SEED": "5", "TMPDIR": str(self.top)}
         return {"args": ["bash", str(self.top / ".ci/run")], "env": given, "stdout": subprocess.PIPE, "stderr": subprocess.STDOUT, "text": True}
+
+    def said(self):
+        """What the stand-ins said of themselves when they began, in that order."""
+        return (self.top / "bin/said").read_text().splitlines()
 
     def run_gate(self, fails=""):
         """Exit code and lines."""
+        (self.top / "bin/said").write_text("")
         done = subprocess.run(**self.command(fails))
         return done.returncode, done.stdout.splitlines()
 
@@ -62,17 +66,19 @@ class Gate(unittest.TestCase):
         code, lines = self.run_gate(fails)
         self.assertNotEqual(code, 0, lines)
         self.assertNotEqual(lines[-1], LAST)
-        self.assertIn(words, "\n".join(lines))
+        self.assertIn(words, lines)
+        return lines
 
     def test_all_is_well(self):
         code, lines = self.run_gate()
         self.assertEqual((code, lines[0], lines[-1]), (0, "rt ci", LAST), lines)
-        said = [line for line in lines if line.startswith(("gate:", "cargo", "tools/", "bench/"))]
-        self.assertEqual(said, [
+        shown = [line for line in lines if line.startswith(("gate:", "rt", "cargo", "tools/", "bench/"))]
+        self.assertEqual(shown, [
+            "rt ci",
             "cargo build --offline --release --quiet in second",
             "gate: second, its tests", "cargo test --offline --quiet in second",
             "gate: tools/compare", "tools/compare 5 145",
-            "gate: tools/link", "tools/link 5 1850",
+            "gate: tools/link", "tools/link --built 5 1850",
             "gate: tools/tests", "tools/tests ran",
             "gate: bench/test", "bench/test ",
         ])
@@ -84,9 +90,24 @@ class Gate(unittest.TestCase):
                 self.assert_fails(part, f"gate: FAILED: {part} ended with 1")
         self.assert_fails("cargo test", "gate: FAILED: second, its tests ended with 1")
 
+    def test_rt_is_through_before_a_part_begins(self):
+        """So that nothing runs beside a proof."""
+        self.run_gate()
+        proving = [line.startswith("rt") for line in self.said()]
+        self.assertEqual(self.said()[:2], ["rt ci", "rt staticlib whitebeamish"])
+        self.assertEqual(proving, sorted(proving, reverse=True), self.said())
+        self.assertEqual(len(proving), 7, self.said())
+
     def test_a_failure_of_rt_or_of_the_build_ends_it(self):
-        self.assert_fails("rt", "6 passed, 1 failed")
-        self.assert_fails("cargo build", "cargo build")
+        """No part is shown then, and after a failure of rt none has begun."""
+        for fails, begun in [("rt ci", ["rt ci"]), ("rt staticlib", ["rt ci", "rt staticlib whitebeamish"])]:
+            with self.subTest(fails):
+                lines = self.assert_fails(fails, f"{fails} failed")
+                self.assertEqual([line for line in lines if line.startswith("gate:")], [])
+                self.assertEqual(self.said(), begun)
+        lines = self.assert_fails("cargo build", "cargo build failed")
+        self.assertEqual([line for line in lines if line.startswith("gate:")], [])
+        self.assertEqual([line for line in self.said() if line.startswith(("tools/", "bench/"))], [])
 
     def test_a_part_that_is_missing_or_killed_fails(self):
         self.script("tools/link", "kill -9 $$")

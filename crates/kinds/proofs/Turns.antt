@@ -26,18 +26,18 @@ use Rattle.parsing.specs.Body.{Bodied}
 use Rattle.bodies.specs.declared.Setting.{Setting as Struct}
 use Rattle.bodies.specs.Setting.{setting-of}
 use Rattle.bodies.proofs.Refused.{points-given}
-use Rattle.kinds.specs.declared.Done.{Done}
+use Rattle.kinds.specs.declared.Turned.{Turned}
 use Rattle.kinds.specs.declared.Stock.{Stock}
 use Rattle.kinds.specs.declared.Stage.the-variants.{Nothing, Set, Ready}
 use Rattle.kinds.specs.Holding.{held-of, with-array, stock}
 use Rattle.kinds.specs.Did.{Did, told-turn}
 use Rattle.kinds.proofs.Holding.{ready-kept, body-array}
 
-pub did-as : {t u : Turn} {d e : List ℕ} {r : Done} → Did t d e r → t ≡ u → Did u d e r
+pub did-as : {t u : Turn} {d e : List ℕ} {r : Turned} → Did t d e r → t ≡ u → Did u d e r
 did-as h q = rw q at h
 
 -- the line told, where this is held
-pub told-did : (i kind refusal : ℕ) {more : Bool} {h : Stock} {held : Held} {d e : List ℕ} {r : Done} →
+pub told-did : (i kind refusal : ℕ) {more : Bool} {h : Stock} {held : Held} {d e : List ℕ} {r : Turned} →
     h ≡ stock held → held-of (stock held) ≡ held → Did (told-turn (held-of h) i kind refusal more) d e r → Did (told-turn held i kind refusal more) d e r
 told-did i kind refusal {more} is e g = did-as g (ap (λ x. told-turn x i kind refusal more) (ap held-of is ∙ e))
 

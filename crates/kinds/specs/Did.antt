@@ -6,7 +6,7 @@ use Prim.Native.Nat.{ℕ, _≤_}
 use lib.ListN.{length}
 use Rattle.rules.specs.Patch.{Held, Turn, report}
 use Rattle.text.specs.Wrote.{Wrote}
-use Rattle.kinds.specs.declared.Done.{Done}
+use Rattle.kinds.specs.declared.Turned.{Turned}
 use Rattle.kinds.specs.Holding.{stock}
 
 -- a turn that prints one line of three fields
@@ -14,7 +14,7 @@ abbrev pub told-turn : Held → ℕ → ℕ → ℕ → Bool → Turn
 told-turn held i kind refusal more = record { held = held; text = report i kind refusal; more = more }
 
 -- what the turn leaves is held, and its text stands at the front of the buffer, whose other bytes are as they were
-pub record Did (t : Turn) (d e : List ℕ) (r : Done) : Type 0 where
+pub record Did (t : Turn) (d e : List ℕ) (r : Turned) : Type 0 where
   pub held : r .stock ≡ stock (t .held)
   pub text : Wrote (t .text) 0 d e (r .wrote)
   pub more : r .more ≡ t .more

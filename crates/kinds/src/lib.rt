@@ -24,8 +24,8 @@ pub struct Stock {
     pub points: [u16; 64],
 }
 
-// What comes of a record: what is held then, how many bytes were written, and whether the program goes on.
-pub struct Done {
+// What a turn did: what is held after it, how many bytes were written, and whether the program goes on. The turns are counted in crate records.
+pub struct Turned {
     pub stock: Stock,
     pub wrote: usize,
     pub more: bool,
@@ -71,11 +71,18 @@ fn with_points(setting: bodies::Setting, points: [u16; 64]) -> Stock
 }
 
 // The line of a record that has no list to tell.
-pub fn told(stock: Stock, number: u64, kind: u16, refusal: u16, more: bool, out: &mut [u8]) -> Done
+pub fn told(
+    stock: Stock,
+    number: u64,
+    kind: u16,
+    refusal: u16,
+    more: bool,
+    out: &mut [u8],
+) -> Turned
     requires { ⌜ Clean stock × (16384 ≤ length (now out)) ⌝ }
     ensures { λ r. ⌜ Did (told-turn (held-of stock) number kind refusal more) (now (out .entry)) (now (out .exit)) r ⌝ }
 {
     let fields = [kind, refusal];
     let wrote = text::numbered_line(number, &fields, out, 0);
-    Done { stock, wrote, more }
+    Turned { stock, wrote, more }
 }

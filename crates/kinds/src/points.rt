@@ -5,15 +5,15 @@ ghost use Rattle.rules.specs.Patch.{body, points-turn, points-come};
 ghost use Rattle.bodies.specs.Setting.{setting-of};
 ghost use Rattle.kinds.specs.Holding.{held-of, Clean};
 ghost use Rattle.kinds.specs.Did.{Did};
-use crate::Done;
 use crate::Stage;
 use crate::Stock;
+use crate::Turned;
 use crate::told;
 use crate::with_points;
 use crate::with_setting;
 
 // Points for this setting.
-fn fit_points(setting: bodies::Setting, number: u64, bytes: &[u8], out: &mut [u8]) -> Done
+fn fit_points(setting: bodies::Setting, number: u64, bytes: &[u8], out: &mut [u8]) -> Turned
     requires { ⌜ (4 ≤ length (now bytes)) × (length (now bytes) ≤ 132) × (16384 ≤ length (now out)) ⌝ }
     ensures { λ r. ⌜ Did (points-turn number (setting-of setting) (body (now (bytes .entry)))) (now (out .entry)) (now (out .exit)) r ⌝ }
 {
@@ -29,7 +29,7 @@ fn fit_points(setting: bodies::Setting, number: u64, bytes: &[u8], out: &mut [u8
 }
 
 // 12 where no setting is held, before the body is read.
-pub fn take_points(stock: Stock, number: u64, bytes: &[u8], out: &mut [u8]) -> Done
+pub fn take_points(stock: Stock, number: u64, bytes: &[u8], out: &mut [u8]) -> Turned
     requires { ⌜ Clean stock × (4 ≤ length (now bytes)) × (length (now bytes) ≤ 132) × (16384 ≤ length (now out)) ⌝ }
     ensures { λ r. ⌜ Did (points-come number (held-of stock) (body (now (bytes .entry)))) (now (out .entry)) (now (out .exit)) r ⌝ }
 {

@@ -3,13 +3,13 @@ ghost use Prim.Native.Nat.{_≤_};
 ghost use lib.ListN.{length};
 ghost use Rattle.rules.specs.Patch.{body, setting-turn};
 ghost use Rattle.kinds.specs.Did.{Did};
-use crate::Done;
+use crate::Turned;
 use crate::told;
 use crate::with_setting;
 use crate::without_setting;
 
 // A setting that is accepted is held, and any other leaves nothing held.
-pub fn take_setting(number: u64, bytes: &[u8], out: &mut [u8]) -> Done
+pub fn take_setting(number: u64, bytes: &[u8], out: &mut [u8]) -> Turned
     requires { ⌜ (14 ≤ length (now bytes)) × (16384 ≤ length (now out)) ⌝ }
     ensures { λ r. ⌜ Did (setting-turn number (body (now (bytes .entry)))) (now (out .entry)) (now (out .exit)) r ⌝ }
 {

@@ -40,7 +40,7 @@ pub fn is_full(held: Held) -> bool
 }
 
 // The record with this number, of which the input has these bytes.
-fn take(
+fn by_kind(
     stock: kinds::Stock,
     number: u64,
     bytes: &[u8],
@@ -48,12 +48,12 @@ fn take(
     curve: &mut [u16; 6400],
     work: &mut [u16; 24000],
     out: &mut [u8],
-) -> kinds::Done
+) -> kinds::Turned
     requires { ⌜ Sound stock × (length (now bytes) ≤ 132) × (16384 ≤ length (now out)) ⌝ }
     ensures { λ r. ⌜ Did (turn number (held-of stock) (now (bytes .entry))) (now (out .entry)) (now (out .exit)) r ⌝ }
 {
     if bytes.len() == 0 {
-        return kinds::Done {
+        return kinds::Turned {
             stock,
             wrote: 0,
             more: false,
@@ -90,14 +90,14 @@ pub fn step(
 {
     let stock = held.stock;
     let number = held.turns + 1;
-    let taken = take(stock, number, bytes, list, curve, work, out);
-    let left = taken.stock;
+    let turned = by_kind(stock, number, bytes, list, curve, work, out);
+    let left = turned.stock;
     Done {
         held: Held {
             turns: number,
             stock: left,
         },
-        wrote: taken.wrote,
-        more: taken.more,
+        wrote: turned.wrote,
+        more: turned.more,
     }
 }

@@ -1,4 +1,4 @@
-// Document 01's numbers that are run and compared: a table of cases for each call, and a line for each case.
+// Document 01's numbers that are run and compared: the cases of each call one after the other, and a line for each.
 mod patches;
 mod settings;
 mod symbols;

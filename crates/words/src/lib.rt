@@ -16,7 +16,7 @@ fn read_word(
     curve: &mut [u16; 6400],
     work: &mut [u16; 24000],
     out: &mut [u8],
-) -> kinds::Done
+) -> kinds::Turned
     requires { ⌜ Sound stock × (stock .stage ≡ Ready) × (4 ≤ length (now bytes)) × (length (now bytes) ≤ 132) × (16384 ≤ length (now out)) ⌝ }
     ensures { λ r. ⌜ Did (word-comes number (held-of stock) (body (now (bytes .entry)))) (now (out .entry)) (now (out .exit)) r ⌝ }
 {
@@ -33,7 +33,7 @@ fn read_word(
     let fields = [3, 0, found];
     let at = text::numbered_line(number, &fields, out, 0);
     let wrote = bodies::candidates(list, setting.k as usize, found as usize, out, at);
-    kinds::Done {
+    kinds::Turned {
         stock,
         wrote,
         more: true,
@@ -49,7 +49,7 @@ pub fn take_word(
     curve: &mut [u16; 6400],
     work: &mut [u16; 24000],
     out: &mut [u8],
-) -> kinds::Done
+) -> kinds::Turned
     requires { ⌜ Sound stock × (4 ≤ length (now bytes)) × (length (now bytes) ≤ 132) × (16384 ≤ length (now out)) ⌝ }
     ensures { λ r. ⌜ Did (word-comes number (held-of stock) (body (now (bytes .entry)))) (now (out .entry)) (now (out .exit)) r ⌝ }
 {

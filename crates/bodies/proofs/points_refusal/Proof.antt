@@ -1,4 +1,4 @@
--- points_refusal: reader's answer for the numbers of the setting.
+-- points_refusal: the answer of crate refusals (of_points) for the numbers of the setting.
 use Rattle.rules.specs.Patch.{points-refusal}
 use borrow.Author.Needs.{needs}
 use Rattle.bodies.proofs.points_refusal.Statement.{statement}

@@ -1,4 +1,4 @@
--- take: the end of the input and refusal 10 first, and then by the kind.
+-- by_kind: the end of the input and refusal 10 first, and then by the kind.
 use mathlib.Core.Path.{_≡_, refl, sym, _∙_}
 use mathlib.Core.Bool.{false}
 use lib.ListN.{length}
@@ -9,8 +9,8 @@ use Rattle.kinds.proofs.Turns.{did-as}
 use Rattle.records.proofs.Steps.{turn-end, turn-broken, turn-setting, turn-points, turn-word, turn-other}
 use native.Mathlib.Omega.{arith}
 use borrow.Author.Needs.{needs}
-use Rattle.records.proofs.take.Statement.{statement}
-use Rattle.records.proofs.take.Tie as tie
+use Rattle.records.proofs.by_kind.Statement.{statement}
+use Rattle.records.proofs.by_kind.Tie as tie
 
 -- the places that answers look back to: the start, and where the record is known to be whole from where its kind is known to be none before
 abbrev entry : tie.Else1 → tie.Start
@@ -130,8 +130,8 @@ returns-6 c =
     did-as (at-told2 .told2 .ensures)
     (turn-other _ _ _ (some (at-whole .before .before)) (whole at-whole) (at-if3 .before .pair .ensures) (at-if3 .if3 .left) (at-if4 .if4 .left) (at-if5 .if5 .left))
 
-pub take-spec : {M : Type 1} → statement M
-take-spec =
+pub by-kind-spec : {M : Type 1} → statement M
+by-kind-spec =
     tie.close
     (tie.spec
     returns
