@@ -1,9 +1,10 @@
 // The symbols that may follow a beginning. They are looked for in blocks: Horner's rule over the rows of the curve, with a block of symbols in the inner loop.
 ghost use mathlib.Core.Path.{_≡_};
-ghost use Prim.Native.Nat.{_+_, _*_, _/_, _<_, _≤_};
+ghost use Prim.Native.Nat.{_+_, _*_, _<_, _≤_};
 ghost use lib.Dec.{T};
 ghost use lib.ListN.{length};
 ghost use Rattle.rules.specs.Field.{modulus};
+ghost use Rattle.symbols.specs.Reciprocal.{Reciprocal};
 ghost use Rattle.buffers.specs.Change.{Changed};
 ghost use Rattle.followers.specs.Followers.{horner-at, head-value-at, Block, zeros-from, followers-at, Appended};
 use runs::clear;
@@ -12,7 +13,7 @@ use symbols::reciprocal;
 
 // Horner's rule takes in the coefficient c, at each symbol of the block from first on: the loop has no exit and no test but those of mixed_by, so that it can be done for many symbols at once.
 fn horner_block(q: u16, m: u32, first: u16, c: u16, acc: &mut [u16])
-    requires { ⌜ T (modulus q) × (m ≡ 4294967295 / q) × (first + length (now acc) ≤ 65535) ⌝ }
+    requires { ⌜ T (modulus q) × Reciprocal q m × (first + length (now acc) ≤ 65535) ⌝ }
     ensures { λ _. ⌜ Changed (horner-at q first c (now (acc .entry))) 0 (length (now (acc .entry))) (now (acc .entry)) (now (acc .exit)) ⌝ }
 {
     let mut i: usize = 0;
@@ -34,7 +35,7 @@ fn block_values(
     work: &[u16],
     acc: &mut [u16],
 )
-    requires { ⌜ T (modulus q) × (m ≡ 4294967295 / q) × (first + length (now acc) ≤ 65535) × (0 < w) × (l ≤ 24) × (b + (l + 1) * w ≤ length (now work)) ⌝ }
+    requires { ⌜ T (modulus q) × Reciprocal q m × (first + length (now acc) ≤ 65535) × (0 < w) × (l ≤ 24) × (b + (l + 1) * w ≤ length (now work)) ⌝ }
     ensures { λ _. ⌜ Changed (head-value-at q first w l b (now (work .entry))) 0 (length (now (acc .entry))) (now (acc .entry)) (now (acc .exit)) ⌝ }
 {
     clear(acc);
