@@ -76,6 +76,7 @@ class Gate(unittest.TestCase):
         self.assertEqual(shown, [
             "rt ci",
             "cargo build --offline --release --quiet in second",
+            "gate: the archive", "rt staticlib whitebeamish",
             "gate: second, its tests", "cargo test --offline --quiet in second",
             "gate: tools/compare", "tools/compare 5 145",
             "gate: tools/link", "tools/link --built 5 1850",
@@ -91,20 +92,22 @@ class Gate(unittest.TestCase):
         self.assert_fails("cargo test", "gate: FAILED: second, its tests ended with 1")
 
     def test_rt_is_through_before_a_part_begins(self):
-        """So that nothing runs beside a proof."""
-        self.run_gate()
-        proving = [line.startswith("rt") for line in self.said()]
-        self.assertEqual(self.said()[:2], ["rt ci", "rt staticlib whitebeamish"])
-        self.assertEqual(proving, sorted(proving, reverse=True), self.said())
-        self.assertEqual(len(proving), 7, self.said())
+        """So that nothing but cargo runs beside a proof, and that only beside the archive's."""
+        self.script("bin/rt", f'[ $1 = ci ] || sleep 1; echo "rt $* is through" >> "$SAID"; echo "{LAST}"')
+        self.assertEqual(self.run_gate()[0], 0)
+        said = self.said()
+        self.assertEqual((said[0], len(said)), ("rt ci is through", 7), said)
+        parts = [said.index(line) for line in said if line.startswith(("tools/", "bench/"))]
+        self.assertEqual(len(parts), 3, said)
+        self.assertLess(said.index("rt staticlib whitebeamish is through"), min(parts))
 
     def test_a_failure_of_rt_or_of_the_build_ends_it(self):
-        """No part is shown then, and after a failure of rt none has begun."""
-        for fails, begun in [("rt ci", ["rt ci"]), ("rt staticlib", ["rt ci", "rt staticlib whitebeamish"])]:
-            with self.subTest(fails):
-                lines = self.assert_fails(fails, f"{fails} failed")
-                self.assertEqual([line for line in lines if line.startswith("gate:")], [])
-                self.assertEqual(self.said(), begun)
+        """After a failure of rt ci nothing has begun, after one of the archive or of the build no part that needs them."""
+        lines = self.assert_fails("rt ci", "rt ci failed")
+        self.assertEqual([line for line in lines if line.startswith("gate:")], [])
+        self.assertEqual(self.said(), ["rt ci"])
+        self.assert_fails("rt staticlib", "gate: FAILED: the archive ended with 1")
+        self.assertEqual([line for line in self.said() if line.startswith(("tools/", "bench/"))], [])
         lines = self.assert_fails("cargo build", "cargo build failed")
         self.assertEqual([line for line in lines if line.startswith("gate:")], [])
         self.assertEqual([line for line in self.said() if line.startswith(("tools/", "bench/"))], [])
