@@ -116,10 +116,10 @@ module _ (O : Ops) (L : Laws O) (S : Space) where
       ((j i t : ℕ) → In S 0 j → In S i t → ¬ ((i ≡ 0) × (t ≡ j)) → g j i t ≡ nil) → Basis O S [] (λ _. 0) g
   unfolding below
   start g f u z = record {
-    order = λ c m. absurd (Memᴰ.not_nil m);
+    order = λ c m. absurd (Memᴰ.not-nil m);
     fit = λ j l. omega (arith, f j l);
     monic = λ j w. record { within = w; lead = u j w; rest = λ i t h l. z j i t w h (λ e. let q = ap₂ (rank S) e.0 e.1 in omega arith) };
-    meets = λ j w. record { each = λ c m. absurd (Memᴰ.not_nil m) };
+    meets = λ j w. record { each = λ c m. absurd (Memᴰ.not-nil m) };
     size = omega (arith, sum_nil 0 (S.top + 1));
   }
 

@@ -37,6 +37,7 @@ module _ (O : Ops) (L : Laws O) where
         where
           or_left : (a b : Bool) → T a → T (a || b)
           or_left true b s = tt
+          or_left false b s = elim s [ ]
 
           or_right : (a b : Bool) → T b → T (a || b)
           or_right true b s = tt

@@ -92,6 +92,7 @@ module _ {A : Type 0} where
       whole = let e = triangle s 0 s (omega arith) in ap (λ m. m * 2) (div-eq_of_eq-mul_left (omega arith) (sym e)) ∙ e
 
 mem_map : {A B : Type 0} (f : A → B) (xs : List A) {y : B} → Memᴰ y (map f xs) → (x : A) × Memᴰ x xs × (y ≡ f x)
+mem_map f [] m = elim m [ ]
 mem_map f (x ∷ xs) (Memᴰ.head e) = (x, Memᴰ.head refl, e)
 mem_map f (x ∷ xs) (Memᴰ.tail m) = let r = mem_map f xs m in (r.0, Memᴰ.tail r.1, r.2)
 
@@ -102,7 +103,7 @@ flat_mem f (Memᴰ.tail {x = x} k) m = Memᴰ.append_right (f x) (flat_mem f k m
 
 mem_flat : {A B : Type 0} (f : A → List B) (xs : List A) {y : B} → Memᴰ y (flat_map f xs) → (x : A) × Memᴰ x xs × Memᴰ y (f x)
 unfolding flat_map
-mem_flat f [] m = absurd (Memᴰ.not_nil m)
+mem_flat f [] m = absurd (Memᴰ.not-nil m)
 mem_flat f (x ∷ xs) m =
     ⊎_elim (λ k. (x, Memᴰ.head refl, k)) (λ k. let r = mem_flat f xs k in (r.0, Memᴰ.tail r.1, r.2)) (Memᴰ.append_cases (f x) m)
 

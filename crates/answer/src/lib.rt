@@ -1,4 +1,6 @@
 // The results of a call, written to the front of the lent answer as far as it reaches.
+#![tactic(auto)]
+
 ghost use Rattle.std.specs.Prelude.{◌≡◌, [], ◌∷◌, set};
 ghost use Rattle.answer.specs.Told.{told};
 

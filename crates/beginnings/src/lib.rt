@@ -1,4 +1,6 @@
 // The beginnings: visiting one and walking the symbols that may follow it call each other; the symbols still to place fall.
+#![tactic(auto)]
+
 ghost use Rattle.std.specs.Prelude.{◌-◌, ◌<◌};
 ghost use Rattle.roots.specs.Ready.{found_at, tried_at, SearchReady};
 ghost use Rattle.beginnings.specs.Searched.{Searched};

@@ -1,4 +1,6 @@
 // The bodies of a patch file's records: the setting in one, what points and a word are refused for, and the lines of a word's readings.
+#![tactic(auto)]
+
 ghost use Rattle.std.specs.Prelude.{◌≡◌, ◌+◌, ◌*◌, ◌≤◌, length, take};
 ghost use mathlib.Core.List.{[], ◌∷◌, flat_map};
 ghost use Rattle.rules.specs.Patch.{line, body, setting_in, setting_record_refusal, points_refusal};

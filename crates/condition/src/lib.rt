@@ -1,4 +1,6 @@
 // One condition: the values of the curves, the curve that is raised, and what the others lose.
+#![tactic(auto)]
+
 ghost use Rattle.std.specs.Prelude.{◌≡◌, ◌+◌, ◌*◌, ◌<◌, ◌≤◌, length};
 ghost use Rattle.buffers.specs.Change.{Changed};
 ghost use Rattle.weights.specs.Shape.{Shaped};

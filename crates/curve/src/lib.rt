@@ -1,4 +1,6 @@
 // The check of a curve: whether it passes for the triples.
+#![tactic(auto)]
+
 ghost use Rattle.std.specs.Prelude.{◌≡◌, ℕ, ◌+◌, ◌-◌, ◌*◌, ◌<◌, ◌≤◌, T, length};
 ghost use Rattle.rules.specs.Field.{ops};
 ghost use Rattle.rules.specs.Lists.{all};

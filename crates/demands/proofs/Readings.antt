@@ -17,6 +17,7 @@ use Rattle.demands.specs.Readings.{Message, Before, Ordered, Once, Lists}
 module _ {A : Type 0} (test : A → Bool) (x : A) where
   kept : (xs : List A) → Memᴰ x xs → T (test x) → Memᴰ x (keep test xs)
   unfolding keep
+  kept [] i t = elim i [ ]
   kept (z ∷ xs) i t = go (test z) (λ y. y) (Memᴰ.cases_cons i) (λ j. kept xs j t)
     where
       go : (b : Bool) → (T (test z) → T b) → (x ≡ z) ⊎ Memᴰ x xs → (Memᴰ x xs → Memᴰ x (keep test xs)) →
@@ -28,6 +29,7 @@ module _ {A : Type 0} (test : A → Bool) (x : A) where
 
   was : (xs : List A) → Memᴰ x (keep test xs) → Memᴰ x xs × T (test x)
   unfolding keep
+  was [] i = elim i [ ]
   was (z ∷ xs) i = go (test z) (λ y. y) i (was xs)
     where
       go : (b : Bool) → (T b → T (test z)) → Memᴰ x (cond b (z ∷ keep test xs) (keep test xs)) →
@@ -63,6 +65,7 @@ module _ (fs : List (List ℕ)) where
 
   longer_has : (gs : List ℕ) (g : ℕ) (f : List ℕ) → Memᴰ g gs → Memᴰ f fs → Memᴰ (g ∷ f) (longer gs)
   unfolding flat_map
+  longer_has [] g f i j = elim i [ ]
   longer_has (c ∷ gs) g f i j =
       ⊎_elim (λ e. Memᴰ.append_left (longer gs) (subst (λ c. Memᴰ (g ∷ f) (map (◌∷◌ c) fs)) e (Memᴰ.map (◌∷◌ g) j)))
       (λ i. Memᴰ.append_right (map (◌∷◌ c) fs) (longer_has gs g f i j)) (Memᴰ.cases_cons i)
@@ -77,6 +80,7 @@ module _ (fs : List (List ℕ)) where
 
   longer_only : (f gs : List ℕ) → Memᴰ f (longer gs) → Longer f gs
   unfolding flat_map
+  longer_only f [] i = elim i [ ]
   longer_only f (c ∷ gs) i =
       ⊎_elim (λ j. let m = Memᴰ.of_map (◌∷◌ c) fs j in record { first = c; rest = m.0; symbol = Memᴰ.head refl; message = m.1; is = m.2 })
       (λ j. let l = longer_only f gs j in record { first = l.first; rest = l.rest; symbol = Memᴰ.tail l.symbol; message = l.message; is = l.is })
@@ -107,6 +111,7 @@ module _ (q : ℕ) where
   messages_only : (k : ℕ) (f : List ℕ) → Memᴰ f (messages (ops q) k) → Message q k f
   unfolding messages below
   messages_only zero f (Memᴰ.head e) = rw e (record { long = refl; small = λ c i. elim i [ ] })
+  messages_only zero f (Memᴰ.tail i) = elim i [ ]
   messages_only (suc k) f i =
       let l = longer_only (messages (ops q) k) f (below q) i in
       let h = messages_only k l.rest l.message in

@@ -1,5 +1,7 @@
 // What the engine is asked for a word: each of its places makes a triple of point, symbol and the one multiplicity s.
 // q is the modulus.
+#![tactic(auto)]
+
 ghost use Rattle.std.specs.Prelude.{◌≡◌, ◌+◌, ◌*◌, T, length};
 ghost use Rattle.rules.specs.Field.{ops};
 ghost use Rattle.rules.specs.Code.{triples};

@@ -1,4 +1,6 @@
 // The field calls of document 01. Each tests what it takes, and then asks crate symbols.
+#![tactic(auto)]
+
 ghost use Rattle.std.specs.Prelude.{◌≡◌, [], ◌∷◌};
 ghost use Rattle.rules.specs.Field.{modulus};
 ghost use Rattle.rules.specs.Refusal.{field_refusal};

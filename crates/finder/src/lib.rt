@@ -1,4 +1,6 @@
 // Kötter's algorithm: of the curves through every triple the least.
+#![tactic(auto)]
+
 ghost use Rattle.std.specs.Prelude.{◌≡◌, map, ℕ, ◌+◌, ◌-◌, ◌*◌, ◌<◌, ◌≤◌, length, get_or};
 ghost use Rattle.rules.specs.Lists.{below, sum};
 ghost use Rattle.algebra.specs.Hom.{move};

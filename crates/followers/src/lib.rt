@@ -1,4 +1,6 @@
 // The symbols that may follow a beginning. They are looked for in blocks: Horner's rule over the rows of the curve, with a block of symbols in the inner loop.
+#![tactic(auto)]
+
 ghost use Rattle.std.specs.Prelude.{◌≡◌, ◌+◌, ◌*◌, ◌<◌, ◌≤◌, T, length};
 ghost use Rattle.rules.specs.Field.{modulus};
 ghost use Rattle.symbols.specs.Reciprocal.{Reciprocal};

@@ -1,4 +1,6 @@
 // The records of a patch file, one after the other, from standard input.
+#![tactic(auto)]
+
 ghost use Rattle.std.specs.Prelude.{◌≤◌, length, take};
 ghost use Rattle.rules.specs.Patch.{size};
 

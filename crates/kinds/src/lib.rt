@@ -1,4 +1,6 @@
 // What is held from one record of a patch file to the next, the line of a record, and the two kinds that change what is held: settings and points.
+#![tactic(auto)]
+
 ghost use Rattle.std.specs.Prelude.{◌≡◌, ◌≤◌, length};
 ghost use Rattle.rules.specs.Patch.{nothing, set};
 ghost use Rattle.bodies.specs.Setting.{setting_of};

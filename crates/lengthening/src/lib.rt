@@ -1,4 +1,6 @@
 // The curve of a beginning lengthened by a symbol, from its slot into the slot after it. A slot is l + 1 rows of w numbers, and the first slot is a spare.
+#![tactic(auto)]
+
 ghost use Rattle.std.specs.Prelude.{◌+◌, ◌*◌, ◌<◌, ◌≤◌, T, length};
 ghost use Rattle.rules.specs.Field.{modulus};
 ghost use Rattle.followers.specs.Slot.{SlotBelow};

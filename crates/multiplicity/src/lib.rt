@@ -1,4 +1,6 @@
 // Whether a curve has a multiplicity at a point and a symbol: whether it meets the conditions of one triple.
+#![tactic(auto)]
+
 ghost use Rattle.std.specs.Prelude.{◌≡◌, ◌+◌, ◌*◌, ◌≤◌, length};
 ghost use Rattle.weights.specs.Shape.{Shaped};
 ghost use Rattle.multiplicity.specs.Met.{zero_with, zero_below, met};

@@ -1,4 +1,6 @@
 // A record of a patch file, as the bytes of it that the input has: its length, its kind and its body.
+#![tactic(auto)]
+
 ghost use Rattle.std.specs.Prelude.{◌≡◌, ◌+◌, ◌*◌, ◌<◌, ◌≤◌, length, get_or};
 ghost use Rattle.rules.specs.Patch.{pairs, length_fits, length_of, size, body, broken};
 ghost use Rattle.parsing.specs.Body.{Bodied};

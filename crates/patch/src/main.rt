@@ -1,4 +1,6 @@
 // The program for patch files: it reads the records from standard input, and prints the lines of each. A read or write that fails stops it and is told.
+#![tactic(auto)]
+
 ghost use Rattle.std.specs.Prelude.{◌≡◌, false, ◌+◌, ◌^◌, ◌<◌, ◌≤◌, length};
 ghost use Rattle.rules.specs.Patch.{nothing, size};
 ghost use Rattle.kinds.specs.Holding.{Sound};

@@ -1,5 +1,7 @@
 // The public calls of document 01. Each tests its refusals in the table's order, by way of `terms` and `refusals`, and then asks
 // the engine, or `writing` for a patch.
+#![tactic(auto)]
+
 ghost use Rattle.std.specs.Prelude.{◌≡◌};
 ghost use Rattle.rules.specs.Outcome.{encode_call, check_call, list_call, Finds, Reads};
 ghost use Rattle.setting.specs.Call.{asked};

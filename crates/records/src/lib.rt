@@ -1,4 +1,6 @@
 // Records of a patch file, one after the other: the turns are counted, and each record is taken by its kind.
+#![tactic(auto)]
+
 ghost use Rattle.std.specs.Prelude.{◌≡◌, ◌+◌, ◌-◌, ◌^◌, ◌<◌, ◌≤◌, eqb, length};
 ghost use Rattle.rules.specs.Patch.{nothing, turn};
 ghost use Rattle.kinds.specs.Holding.{held_of, Sound};

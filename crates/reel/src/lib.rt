@@ -1,4 +1,6 @@
 // A reel: the words of one setting, laid end to end and read one after the other in one call.
+#![tactic(auto)]
+
 ghost use Rattle.std.specs.Prelude.{◌≡◌, ◌||◌, ◌*◌, ◌/◌, ◌≤◌, ◌<◌, ltb, length, set};
 ghost use Rattle.rules.specs.Setting.{ℓ};
 ghost use Rattle.rules.specs.Search.{rows};

@@ -1,4 +1,6 @@
 // The refusal numbers 5 to 8 of what a call is lent, and the whole number of encode: the lowest that applies, and 0 where none does.
+#![tactic(auto)]
+
 ghost use Rattle.std.specs.Prelude.{◌≡◌, cond, not, [], ◌∷◌, ◌++◌, ◌<◌, ◌%◌, eqb};
 ghost use Rattle.rules.specs.Refusal.{◌if◌, ◌of◌, lowest, point_causes, encode_refusal};
 
@@ -16,7 +18,7 @@ pub fn of_proposed(
     size: usize,
     curve: &[u16],
 ) -> u16
-    ensures { result ≡ lowest (point_causes p n points.now ((m of (λ x. x.now) symbols.entry) ∷ (size of (λ x. x.now) curve.entry) ∷ [])) }
+    ensures { result ≡ lowest (point_causes p n points.now ((m of symbols.now) ∷ (size of curve.now) ∷ [])) }
 {
     if !slices::three_long(n, points, m, symbols, size, curve) {
         return 5;
@@ -32,7 +34,7 @@ pub fn of_proposed(
 
 // 5 to 7 for n points and m symbols: no curve is one of no numbers.
 fn of_pair(p: usize, n: usize, points: &[u16], m: usize, symbols: &[u16]) -> u16
-    ensures { result ≡ lowest (point_causes p n points.now ((m of (λ x. x.now) symbols.entry) ∷ [])) }
+    ensures { result ≡ lowest (point_causes p n points.now ((m of symbols.now) ∷ [])) }
 {
     of_proposed(p, n, points, m, symbols, 0, &points[..0])
 }
@@ -59,7 +61,7 @@ fn or_eight(number: u16, short: bool) -> u16
 
 // 5 to 8 for n points and as many symbols, where the rooms are too short or not.
 pub fn of_word(p: usize, n: usize, points: &[u16], word: &[u16], short: bool) -> u16
-    ensures { result ≡ lowest (point_causes p n points.now ((n of (λ x. x.now) word.entry) ∷ []) ++ (8 if short) ∷ []) }
+    ensures { result ≡ lowest (point_causes p n points.now ((n of word.now) ∷ []) ++ (8 if short) ∷ []) }
 {
     or_eight(of_pair(p, n, points, n, word), short)
 }
@@ -74,7 +76,7 @@ pub fn of_listing(
     curve: &[u16],
     short: bool,
 ) -> u16
-    ensures { result ≡ lowest (point_causes p n points.now ((n of (λ x. x.now) word.entry) ∷ (size of (λ x. x.now) curve.entry) ∷ []) ++ (8 if short) ∷ []) }
+    ensures { result ≡ lowest (point_causes p n points.now ((n of word.now) ∷ (size of curve.now) ∷ []) ++ (8 if short) ∷ []) }
 {
     or_eight(of_proposed(p, n, points, n, word, size, curve), short)
 }

@@ -1,4 +1,6 @@
 // The tally, and what a beginning of k symbols adds to it: a root, or none.
+#![tactic(auto)]
+
 ghost use Rattle.std.specs.Prelude.{◌≡◌, ◌+◌, ◌*◌, ◌≤◌, length, take};
 ghost use Rattle.followers.specs.Followers.{Written};
 ghost use Rattle.roots.specs.Ready.{found_at, listed, SearchReady};

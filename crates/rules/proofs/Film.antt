@@ -179,13 +179,13 @@ told_before : (held : Held) (before after : List (List ℕ)) → EachWhole befor
     told held (before ++ after) ≡ told held before ++ told (held_after held before) after
 unfolding told held_after
 told_before held [] after w = refl
-told_before held (b ∷ before) after w = rw (turn_whole b w.0 held) (ap (λ r. unnumbered held b ∷ r) (told_before _ before after w.1))
+told_before held (b ∷ before) after w = rw (turn_whole b w.0 held) (ap (λ r. unnumbered held b ∷ r) (told_before (next (kind b) held (body b)) before after w.1))
 
 told_after : (held : Held) (before after : List (List ℕ)) → EachWhole before →
     drop (length before) (told held (before ++ after)) ≡ told (held_after held before) after
 unfolding told held_after
 told_after held [] after w = refl
-told_after held (b ∷ before) after w = rw (turn_whole b w.0 held) (told_after _ before after w.1)
+told_after held (b ∷ before) after w = rw (turn_whole b w.0 held) (told_after (next (kind b) held (body b)) before after w.1)
 
 -- what is told of the records before a cut, and then of the others behind the repeated ones
 pub parted : (before after : List (List ℕ)) → EachWhole before →

@@ -1,4 +1,6 @@
 // Runs of symbols in slices: sums and values modulo q, which names a field, runs that are filled, and what is asked of a run.
+#![tactic(auto)]
+
 ghost use Rattle.std.specs.Prelude.{◌≡◌, not, ◌%◌, ◌<◌, ◌≤◌, T, eqb, length};
 ghost use Rattle.rules.specs.Lists.{all, distinct};
 ghost use Rattle.rules.specs.Field.{ops, modulus};

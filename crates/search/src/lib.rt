@@ -1,4 +1,6 @@
 // The root search: every root of a curve, and the tally, by value and lent.
+#![tactic(auto)]
+
 ghost use Rattle.search.specs.Search.{Asked, CurveSearched, RootsLeft, spare, none};
 
 use beginnings::visit;

@@ -1,4 +1,6 @@
 // The setting: its ranges and its derived numbers.
+#![tactic(auto)]
+
 ghost use Rattle.std.specs.Prelude.{◌≡◌, true, ℕ, ◌+◌, ◌-◌, ◌*◌, ◌/◌, ◌≤◌, ◌<◌};
 ghost use Rattle.rules.specs.Lists.{below, sum};
 ghost use Rattle.rules.specs.Field.{modulus};

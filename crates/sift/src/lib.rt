@@ -1,4 +1,6 @@
 // Sifting: of the messages in a buffer those that agree with enough of the triples of point, symbol and multiplicity.
+#![tactic(auto)]
+
 ghost use Rattle.std.specs.Prelude.{◌≡◌, cond, ◌+◌, ◌*◌, ◌<◌, ◌≤◌, T, length};
 ghost use Rattle.rules.specs.Field.{ops, modulus};
 ghost use Rattle.rules.specs.Code.{meets, score};

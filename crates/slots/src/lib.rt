@@ -1,4 +1,6 @@
 // Curves in the slots of one buffer: where they start, and what a step does to them.
+#![tactic(auto)]
+
 ghost use Rattle.std.specs.Prelude.{◌+◌, ◌*◌, ◌<◌, ◌≤◌, ◌≡◌, length, get_or};
 ghost use Rattle.rules.specs.Field.{minus};
 ghost use Rattle.within.specs.Runs.{RunsApart};

@@ -1,4 +1,6 @@
 // Standard input and output with nothing lost: each byte is moved, or a call failed; then the caller learns it, and standard error gets the caller's words and the system's reason.
+#![tactic(auto)]
+
 ghost use Rattle.std.specs.Prelude.{◌≤◌, length};
 
 use libc::{EAGAIN, EINTR, STDIN_FILENO, STDOUT_FILENO};

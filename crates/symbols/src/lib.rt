@@ -1,4 +1,6 @@
 // Single symbols modulo q, which names a field. Any two numbers of 16 bits have a sum, a difference and a product.
+#![tactic(auto)]
+
 ghost use Rattle.std.specs.Prelude.{◌≡◌, ◌+◌, ◌*◌, ◌%◌, ◌<◌, ◌≤◌, T};
 ghost use Rattle.rules.specs.Field.{ops, plus, minus, times, modulus, inverse};
 ghost use Rattle.symbols.specs.Euclid.{Chain, Factor};

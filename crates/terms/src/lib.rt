@@ -1,4 +1,6 @@
 // The numbers of a setting as the engine takes them.
+#![tactic(auto)]
+
 ghost use Rattle.std.specs.Prelude.{◌≡◌};
 ghost use Rattle.setting.specs.Call.{asked};
 ghost use Rattle.terms.specs.Terms.{Posed};

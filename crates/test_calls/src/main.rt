@@ -1,4 +1,6 @@
 // Runs kept cases of find, check, list and read from standard input, and prints each outcome with what the buffers then hold.
+#![tactic(auto)]
+
 ghost use Rattle.std.specs.Prelude.{◌+◌, ◌≤◌};
 
 use test_cases::input::{Case, next, read_case, take, wide};

@@ -1,4 +1,6 @@
 // Document 01's numbers that are run and compared: the cases of each call one after the other, and a line for each.
+#![tactic(auto)]
+
 mod patches;
 mod settings;
 mod symbols;

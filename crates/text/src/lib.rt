@@ -1,4 +1,6 @@
 // Text written into a lent buffer, at a place.
+#![tactic(auto)]
+
 ghost use Rattle.std.specs.Prelude.{◌≡◌, [], ◌∷◌, ◌+◌, ◌*◌, ◌<◌, ◌≤◌, length};
 ghost use Rattle.rules.specs.Patch.{digits, spaced, line};
 ghost use Rattle.text.specs.Wrote.{Wrote};

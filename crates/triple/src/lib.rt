@@ -1,4 +1,6 @@
 // The conditions of one triple in their order, by rising b and for each b by rising a.
+#![tactic(auto)]
+
 ghost use Rattle.std.specs.Prelude.{map, ◌≡◌, ℕ, ◌+◌, ◌*◌, ◌<◌, ◌≤◌, length};
 ghost use Rattle.rules.specs.Lists.{below};
 ghost use Rattle.algebra.specs.Conditions.{condition, conditions_at};

@@ -1,4 +1,6 @@
 // The weights of Hasse derivatives, and what weights for x and for y make of a curve. The check and the finder stand on both.
+#![tactic(auto)]
+
 ghost use Rattle.std.specs.Prelude.{◌≡◌, ◌+◌, ◌-◌, ◌*◌, ◌<◌, ◌≤◌, T, length, get_or};
 ghost use Rattle.rules.specs.Field.{ops, modulus};
 ghost use Rattle.algebra.specs.Conditions.{weight};

@@ -1,4 +1,6 @@
 // The public calls, exported for C and Rust. Each returns its refusal number, 0 where it accepts; its further results go to the front of the lent answer, as many as the answer holds, and are zeros where it refuses.
+#![tactic(auto)]
+
 ghost use Rattle.std.specs.Prelude.{◌≡◌, [], ◌∷◌};
 ghost use Rattle.rules.specs.Field.{modulus};
 ghost use Rattle.rules.specs.Outcome.{sum_call, difference_call, product_call, inverse_call, setting_call, encode_call, check_call, list_call, Finds};

@@ -1,4 +1,6 @@
 // Runs of symbols inside one lent buffer, modulo q, which names a field.
+#![tactic(auto)]
+
 ghost use Rattle.std.specs.Prelude.{◌⊎◌, ◌≡◌, ◌+◌, ◌≤◌, T, length, get_or};
 ghost use Rattle.rules.specs.Field.{modulus};
 ghost use Rattle.buffers.specs.Change.{Changed};

@@ -1,4 +1,6 @@
 // A record of kind 3: the word is read with the setting and the points that are held.
+#![tactic(auto)]
+
 ghost use Rattle.std.specs.Prelude.{◌≡◌, ◌≤◌, length};
 ghost use Rattle.rules.specs.Patch.{body, word_comes};
 ghost use Rattle.kinds.specs.declared.Stage.TheVariants.{Ready};
