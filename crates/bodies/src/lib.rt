@@ -10,7 +10,7 @@ ghost use Rattle.bodies.specs.Setting.{setting_of};
 ghost use Rattle.bodies.specs.Heard.{Heard};
 
 // "Kind 1: p, n, k, s, τ"
-#[derive(Drop)]
+#[derive(Clone, Copy)]
 pub struct Setting {
     pub p: u16,
     pub n: u16,
@@ -20,7 +20,7 @@ pub struct Setting {
 }
 
 // What reading a word gives: the refusal number or 0, and how many candidates there are.
-#[derive(Drop)]
+#[derive(Clone, Copy)]
 pub struct Reply {
     pub refusal: u16,
     pub found: u16,

@@ -8,7 +8,7 @@ ghost use Rattle.rules.specs.Outcome.{sum_call, difference_call, product_call, i
 ghost use Rattle.field.specs.Answer.{answered};
 
 // The refusal number, or 0, and the symbol asked for.
-#[derive(Drop)]
+#[derive(Clone, Copy)]
 pub struct Answer {
     pub refusal: u16,
     pub symbol: u16,

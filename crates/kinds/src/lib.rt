@@ -11,7 +11,7 @@ pub mod points;
 pub mod settings;
 
 // How much is held.
-#[derive(Drop)]
+#[derive(Clone, Copy)]
 pub enum Stage {
     Nothing,
     Set,
@@ -19,7 +19,7 @@ pub enum Stage {
 }
 
 // What is held: the setting from stage Set on, and at stage Ready the points, which are the first n. All else is zero.
-#[derive(Drop)]
+#[derive(Clone, Copy)]
 pub struct Stock {
     pub stage: Stage,
     pub setting: bodies::Setting,
@@ -27,7 +27,7 @@ pub struct Stock {
 }
 
 // What a turn did: what is held after it, how many bytes were written, and whether the program goes on. The turns are counted in crate records.
-#[derive(Drop)]
+#[derive(Clone, Copy)]
 pub struct Turned {
     pub stock: Stock,
     pub wrote: usize,

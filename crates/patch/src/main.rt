@@ -8,7 +8,7 @@ ghost use Rattle.records.specs.Stepped.{holding};
 ghost use Rattle.patch.specs.Completed.{Took, Went, Completed};
 
 // What a turn left: what is held then, whether the program goes on, and whether a read or a write failed.
-#[derive(Drop)]
+#[derive(Clone, Copy)]
 struct Left {
     held: records::Held,
     more: bool,

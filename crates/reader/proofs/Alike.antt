@@ -101,7 +101,12 @@ pub read_alike : (S : Setting) (points word output curve work : List ℕ) (o o' 
 read_alike S points word output curve work o o' h h' =
     let d = read_decided S points word output curve work h in
     let d' = read_decided S points word output curve work h' in
+    let left = read_left S points word output work (same_itself S curve) o o' h h' in
     record {
-      left = read_left S points word output work (same_itself S curve) o o' h h';
-      refused = λ r. let n = λ z. r (d.is_number ∙ z) in d.refused n ∙ sym (d'.refused n);
+      refusal = left.refusal;
+      found = left.found;
+      output = left.output;
+      behind = left.behind;
+      work = left.work;
+      refused = λ r. let n : ¬ (read_number S points word output curve work ≡ 0) = λ z. r (d.is_number ∙ z) in d.refused n ∙ sym (d'.refused n);
     }

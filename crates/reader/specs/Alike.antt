@@ -26,7 +26,11 @@ pub record AlikeLeft (S : Setting) (o o' : Reading) : Type 0 where
   pub work : o.work ≡ o'.work
 
 pub record AlikeRead (S : Setting) (o o' : Reading) : Type 0 where
-  pub left : AlikeLeft S o o'
+  pub refusal : o.refusal ≡ o'.refusal
+  pub found : o.found ≡ o'.found
+  pub output : o.output ≡ o'.output
+  pub behind : SameBehind S o.curve o'.curve
+  pub work : o.work ≡ o'.work
   pub refused : ¬ (o.refusal ≡ 0) → o ≡ o'
 
 -- .. and two readings whose lent buffers held other numbers: the refusal, the list length and the list, found · k numbers of the output

@@ -11,7 +11,7 @@ use refusals::slices;
 use roots::Tally;
 
 // What the check answers: the refusal number or 0, and yes or no, which is no where it refuses.
-#[derive(Drop)]
+#[derive(Clone, Copy)]
 pub struct Checked {
     pub refusal: u16,
     pub yes: bool,
@@ -19,7 +19,7 @@ pub struct Checked {
 
 // What finding, listing and reading answer: the refusal number or 0, the list length, and how many beginnings were tried.
 // The last two are 0 where a call refuses, and of finding always.
-#[derive(Drop)]
+#[derive(Clone, Copy)]
 pub struct Outcome {
     pub refusal: u16,
     pub found: usize,

@@ -9,14 +9,14 @@ ghost use Rattle.records.specs.Stepped.{holding, Stepped};
 
 // How many turns were taken, and what is held after them.
 // Nobody but this crate makes or changes one: a number is counted on by step alone.
-#[derive(Drop)]
+#[derive(Clone, Copy)]
 pub struct Held {
     turns: u64,
     stock: kinds::Stock,
 }
 
 // What comes of a record: what is held then, how many bytes were written, and whether the program goes on.
-#[derive(Drop)]
+#[derive(Clone, Copy)]
 pub struct Done {
     pub held: Held,
     pub wrote: usize,

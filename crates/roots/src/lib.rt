@@ -8,14 +8,14 @@ ghost use Rattle.roots.specs.Ready.{found_at, listed, SearchReady};
 use runs::all_zero;
 
 // List length and beginnings tried.
-#[derive(Drop)]
+#[derive(Clone, Copy)]
 pub struct Tally {
     pub found: usize,
     pub tried: usize,
 }
 
 // The modulus, the symbols of a message, and the width and the last row of a curve.
-#[derive(Drop)]
+#[derive(Clone, Copy)]
 pub struct Sizes {
     pub q: u16,
     pub k: usize,

@@ -13,7 +13,7 @@ ghost use Rattle.setting.specs.Accepted.{Ranged};
 use field::is_modulus;
 
 // What the setting call answers: the refusal or 0, then W, ℓ, C, U and R, all 0 where it refuses.
-#[derive(Drop)]
+#[derive(Clone, Copy)]
 pub struct Derived {
     pub refusal: u16,
     pub w: usize,

@@ -6,7 +6,7 @@ ghost use Rattle.std.specs.Prelude.{◌≤◌, length};
 use libc::{EAGAIN, EINTR, STDIN_FILENO, STDOUT_FILENO};
 
 // What came of reading: how many bytes, and whether there are no more because a read failed. Otherwise fewer than there are places mean that the input ended.
-#[derive(Drop)]
+#[derive(Clone, Copy)]
 pub struct Got {
     pub count: usize,
     pub failed: bool,

@@ -7,7 +7,7 @@ ghost use Rattle.terms.specs.Terms.{Posed};
 
 // The refusal number of the setting. Where it is 0: p and s as wide as symbols, W and ℓ, and three rooms:
 // `size` of a curve, (ℓ+1)·W; `list` of the longest list, ℓ·k; and `room` of work, R.
-#[derive(Drop)]
+#[derive(Clone, Copy)]
 pub struct Terms {
     pub refusal: u16,
     pub q: u16,

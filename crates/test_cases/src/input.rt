@@ -1,7 +1,7 @@
 // Cases from standard input, which has numbers of two bytes.
 
 // A case's setting.
-#[derive(Drop)]
+#[derive(Clone, Copy)]
 pub struct Case {
     pub p: usize,
     pub n: usize,

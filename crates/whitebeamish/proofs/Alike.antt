@@ -33,12 +33,12 @@ pub read_told_alike : (S : Setting) (points word output curve work answer : List
     → AlikeReadTold S r r' out out' c c' w w' t t'
 read_told_alike S points word output curve work answer r r' out out' c c' w w' t t' h h' =
     let a = read_alike S points word output curve work _ _ h.reads h'.reads in
-    let told' = h'.tells ∙ ap (λ (f : ℕ). told (f ∷ h'.tried ∷ []) answer) (sym a.left.found) in
+    let told' = h'.tells ∙ ap (λ (f : ℕ). told (f ∷ h'.tried ∷ []) answer) (sym a.found) in
     record {
-      refusal = a.left.refusal;
-      output = a.left.output;
-      behind = a.left.behind;
-      work = a.left.work;
+      refusal = a.refusal;
+      output = a.output;
+      behind = a.behind;
+      work = a.work;
       answer = subst₂ AlikeAnswer (sym h.tells) (sym told') (told_alike answer h.found h.tried h'.tried);
       refused = λ n. let same = a.refused n in (
         ap (λ (o : Reading). o.curve) same,
