@@ -4,10 +4,11 @@ use mathlib.Core.Bool.{false, ◌||◌}
 use mathlib.Core.Logic.{◌⊎◌, inl, inr}
 use mathlib.Core.List.{List, [], ◌∷◌, ◌++◌, flatten}
 use Prim.Native.Nat.{ℕ, ◌-◌, ◌*◌, ◌<◌, ◌≤◌}
+use native.Mathlib.Nat.{le-mul_of_pos_right}
 use native.Mathlib.Decide.{ℕ_discrete}
 use native.Mathlib.Omega.{arith}
 use lib.Dec.{ltb}
-use lib.ListN.{length, drop}
+use lib.ListN.{length, drop, length-append}
 use borrow.Author.Tests.{le-ltb}
 use Rattle.rules.specs.Setting.{Setting, ℓ, curve_length, R}
 use Rattle.rules.specs.Refusal.{◌if◌, ◌of◌, lowest, symbol_causes, setting_causes, setting_refusal, word_causes, read_refusal}
@@ -21,8 +22,7 @@ use Rattle.rules.proofs.Lowest.{named, first_accept}
 use Rattle.rules.proofs.Given.{Given, others_alone}
 use Rattle.reader.proofs.Decided.{read_number, read_decided}
 use Rattle.reader.proofs.Readings.{read_reads}
-use Rattle.reader.proofs.Few.{found_within, found_few}
-use Rattle.demands.proofs.Runs.{Long, rows_flat, readings_long}
+use Rattle.demands.proofs.Runs.{Long, rows_flat, flat_length, readings_long}
 use Rattle.buffers.proofs.Change.{lt_or_ge}
 use Rattle.bodies.specs.Heard.{Standing, Heard, messages_of}
 use Rattle.bodies.proofs.Refused.{call_refuses, too_much_work, points_given}
@@ -68,10 +68,6 @@ module _ (S : Setting) (points word : List ℕ) (K : Known S points) where
     pub refusal_is : o.refusal ≡ word_refusal S word
     refusal_is = (read_decided S points word output curve work g).is_number ∙ number_is
 
-    -- refused or not, there are no more than the output holds
-    pub few : o.found ≤ length o.output
-    few = found_few S points word output curve work o g (omega (arith, K.setting.passed.ranged.code.k_least))
-
     module _ (z : o.refusal ≡ 0) where
       abbrev fs : List (List ℕ)
       fs = messages_of S points word
@@ -87,13 +83,32 @@ module _ (S : Setting) (points word : List ℕ) (K : Known S points) where
       in_front = read.written
 
       pub listed : Standing S fs o.output o.found
-      listed = record {
+      listed = let q : o.found * S.k ≤ length o.output = room in record {
         count = read.list;
         rows_are = ap (λ (n : ℕ). rows S.k n o.output) read.list ∙ ap (λ (x : List ℕ). rows S.k (length fs) x) in_front
             ∙ rows_flat S.k fs _ long_list;
-        room = found_within S points word output curve work o g;
-        few = few;
+        room = q;
+        few = omega (arith, q, le-mul_of_pos_right {m = S.k} o.found (omega (arith, K.setting.passed.ranged.code.k_least)));
       }
+        where
+          room : o.found * S.k ≤ length o.output
+          room = omega (
+            arith,
+            ap (λ x. x * S.k) read.list,
+            flat_length S.k fs long_list,
+            ap length in_front,
+            length-append (flatten fs) (drop (length (flatten fs)) output),
+          )
 
     pub heard : length o.output ≡ 1536 → Heard S points word o.output o.refusal o.found
     heard l = record { list_long = l; is_refusal = refusal_is; accepted = listed }
+
+    -- refused or not, there are no more than the output holds
+    pub found_few : o.found ≤ length o.output
+    found_few = go (ℕ_discrete o.refusal 0)
+      where
+        go : Dec (o.refusal ≡ 0) → o.found ≤ length o.output
+        go (yes z) = (listed z).few
+        go (no n) =
+            let own = (read_decided S points word output curve work g).refused (λ z. n (refusal_is ∙ sym number_is ∙ z)) in
+            let q : o.found ≡ 0 = ap (λ (x : Reading). x.found) own in omega arith

@@ -1,19 +1,17 @@
 -- Tests place by place: what a loop has seen so far decides them.
-use mathlib.Core.Path.{◌≡◌, sym, subst}
-use mathlib.Core.Bool.{Bool, true, false, not}
+use mathlib.Core.Path.{◌≡◌, sym, subst, ◌∙◌}
+use mathlib.Core.Bool.{Bool, true, false}
 use Prim.Native.Nat.{ℕ, ◌<◌}
 use lib.Dec.{T}
 use Rattle.rules.specs.Lists.{below, all}
 use Rattle.rules.proofs.Tests.{below_at, below_of, same_test, test_true, test_false}
 
--- what a test says that is asked with a `not` before it
-pub said_yes : (r b : Bool) → not r ≡ false → r ≡ b → T b
-said_yes true b e f = subst T f tt
-said_yes false b e f = absurd (subst T e tt)
+-- what an answer says of the test that it answers
+pub said_yes : (r b : Bool) → r ≡ true → r ≡ b → T b
+said_yes r b e f = subst T (sym e ∙ f) tt
 
-pub said_no : (r b : Bool) → not r ≡ true → r ≡ b → ¬ (T b)
-said_no true b e f t = subst T (sym e) tt
-said_no false b e f t = subst T (sym f) t
+pub said_no : (r b : Bool) → r ≡ false → r ≡ b → ¬ (T b)
+said_no r b e f t = subst T (sym f ∙ e) t
 
 -- the answer that a loop gives at its end, and where it stops
 module _ (test : ℕ → Bool) (n : ℕ) where

@@ -17,6 +17,7 @@ struct Left {
 
 // A record of which the input has these bytes: taken, its lines written. The rest is room for it.
 fn take(
+    rt: &HostRuntime,
     held: records::Held,
     bytes: &[u8],
     list: &mut [u16; 1536],
@@ -30,7 +31,11 @@ fn take(
     let done = records::step(held, bytes, list, curve, work, out);
     let wrote = done.wrote;
     let lines: &[u8] = out;
-    let written = streams::put(&lines[..wrote], b"patch: cannot write to standard output");
+    let written = streams::put(
+        rt,
+        &lines[..wrote],
+        b"patch: cannot write to standard output",
+    );
     let next = done.held;
     Left {
         held: next,
@@ -41,6 +46,7 @@ fn take(
 
 // One turn. A read that fails is no end of the input, so nothing is said of what came before it of the record.
 fn turn(
+    rt: &HostRuntime,
     held: records::Held,
     list: &mut [u16; 1536],
     curve: &mut [u16; 6400],
@@ -51,7 +57,7 @@ fn turn(
     ensures { result.failed ≡ false → Went held result }
 {
     let mut bytes = [0u8; 132];
-    let got = input::read_record(&mut bytes, b"patch: cannot read standard input");
+    let got = input::read_record(rt, &mut bytes, b"patch: cannot read standard input");
     if got.failed {
         return Left {
             held,
@@ -60,12 +66,13 @@ fn turn(
         };
     }
     let n = got.count;
-    take(held, &bytes[..n], list, curve, work, out)
+    take(rt, held, &bytes[..n], list, curve, work, out)
 }
 
 // Takes turn after turn until one stops, and answers what it left: the end of the input, refusal 10, or a call that fails.
 // Where no number is left for a further record, which cannot come about, it stops as where a call fails.
 fn read_all(
+    rt: &HostRuntime,
     list: &mut [u16; 1536],
     curve: &mut [u16; 6400],
     work: &mut [u16; 24000],
@@ -75,7 +82,7 @@ fn read_all(
 {
     let mut held = records::start();
     while !records::is_full(held) {
-        let left = turn(held, list, curve, work, out);
+        let left = turn(rt, held, list, curve, work, out);
         if left.failed {
             return left;
         }
@@ -92,11 +99,11 @@ fn read_all(
 }
 
 // The room for every record is made here, once: a list of candidates, a curve, document 01's 24,000 numbers of work, and the lines.
-fn main() {
+fn main(rt: HostRuntime) {
     let mut list = [0u16; 1536];
     let mut curve = [0u16; 6400];
     let mut work = [0u16; 24000];
     let mut out = [0u8; 16384];
-    read_all(&mut list, &mut curve, &mut work, &mut out);
-    streams::finish(b"patch: cannot close standard output");
+    read_all(&rt, &mut list, &mut curve, &mut work, &mut out);
+    streams::finish(&rt, b"patch: cannot close standard output");
 }

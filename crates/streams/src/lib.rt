@@ -3,7 +3,10 @@
 
 ghost use Rattle.std.specs.Prelude.{◌≤◌, length};
 
-use libc::{EAGAIN, EINTR, STDIN_FILENO, STDOUT_FILENO};
+use std::fs::File;
+use std::io::{Error, ErrorKind, Read, Write};
+use std::time::Duration;
+use std::{fs, io, thread};
 
 // What came of reading: how many bytes, and whether there are no more because a read failed. Otherwise fewer than there are places mean that the input ended.
 #[derive(Clone, Copy)]
@@ -12,44 +15,54 @@ pub struct Got {
     pub failed: bool,
 }
 
-// Waits for a thousandth of a second, or less where a signal comes.
-fn pause() {
-    let asked = libc::types::timespec {
-        tv_sec: 0,
-        tv_nsec: 1000000,
-    };
-    let mut left = libc::types::timespec {
-        tv_sec: 0,
-        tv_nsec: 0,
-    };
-    libc::nanosleep(&asked, &mut left);
+// Waits for a thousandth of a second.
+fn pause(rt: &HostRuntime) {
+    thread::sleep(rt, Duration::from_millis(1));
 }
 
 // After a call that failed: whether to try it again, since a signal came between or the other end was not ready. In the second case it waits first.
-fn again() -> bool {
-    let error = os::errno();
-    if error == EAGAIN {
-        pause();
-        return true;
+fn again(rt: &HostRuntime, error: &Error) -> bool {
+    match error.kind() {
+        ErrorKind::WouldBlock => {
+            pause(rt);
+            true
+        }
+        ErrorKind::Interrupted => true,
+        _ => false,
     }
-    error == EINTR
+}
+
+// The caller's words and the system's reason, as a line on standard error.
+fn tell(rt: &HostRuntime, words: &[u8], error: &Error) {
+    let mut to = rt.stderr();
+    let _ = to.write_all(words);
+    let _ = to.write_all(b": ");
+    if let Ok(text) = format!(in rt.alloc(); "{error}") {
+        let end = text.find(" (os error ").unwrap_or(text.len());
+        let _ = to.write_all(&text.as_bytes()[..end]);
+    }
+    let _ = to.write_all(b"\n");
 }
 
 // One read that is answered: none came where the input ended or the read failed.
-fn read_some(part: &mut [u8]) -> Got
+fn read_some(rt: &HostRuntime, part: &mut [u8], words: &[u8]) -> Got
     ensures { result.count ≤ length part.old }
 {
     let mut tries: u64 = 0;
     while tries < u64::MAX {
-        let got = libc::read(STDIN_FILENO, part);
-        if got >= 0 {
-            return Got {
-                count: io::count(got, part),
-                failed: false,
-            };
-        }
-        if !again() {
-            break;
+        match rt.stdin().read(part) {
+            Ok(count) => {
+                return Got {
+                    count,
+                    failed: false,
+                };
+            }
+            Err(error) => {
+                if !again(rt, &error) {
+                    tell(rt, words, &error);
+                    break;
+                }
+            }
         }
         tries += 1;
     }
@@ -60,17 +73,14 @@ fn read_some(part: &mut [u8]) -> Got
 }
 
 // Reads until all places hold a byte, the input ends or a read fails.
-pub fn fill(all: &mut [u8], words: &[u8]) -> Got
+pub fn fill(rt: &HostRuntime, all: &mut [u8], words: &[u8]) -> Got
     ensures { result.count ≤ length all.old }
 {
     let end = all.len();
     let mut at: usize = 0;
     while at < end {
-        let got = read_some(&mut all[at..end]);
+        let got = read_some(rt, &mut all[at..end], words);
         if got.count == 0 {
-            if got.failed {
-                os::fail(words);
-            }
             return Got {
                 count: at,
                 failed: got.failed,
@@ -85,17 +95,24 @@ pub fn fill(all: &mut [u8], words: &[u8]) -> Got
 }
 
 // One write that is answered: how many bytes it took, none where it failed.
-fn write_some(part: &[u8]) -> usize
+fn write_some(rt: &HostRuntime, part: &[u8], words: &[u8]) -> usize
     ensures { result ≤ length part.now }
 {
     let mut tries: u64 = 0;
     while tries < u64::MAX {
-        let put = libc::write(STDOUT_FILENO, part);
-        if put >= 0 {
-            return io::count(put, part);
-        }
-        if !again() {
-            break;
+        match rt.stdout().write(part) {
+            Ok(count) => {
+                if count == 0 {
+                    tell(rt, words, &Error::from(ErrorKind::WriteZero));
+                }
+                return count;
+            }
+            Err(error) => {
+                if !again(rt, &error) {
+                    tell(rt, words, &error);
+                    break;
+                }
+            }
         }
         tries += 1;
     }
@@ -103,13 +120,12 @@ fn write_some(part: &[u8]) -> usize
 }
 
 // Writes all of it, or stops at the first write that fails: what was written is then the front of it.
-pub fn put(all: &[u8], words: &[u8]) -> bool {
+pub fn put(rt: &HostRuntime, all: &[u8], words: &[u8]) -> bool {
     let end = all.len();
     let mut at: usize = 0;
     while at < end {
-        let count = write_some(&all[at..end]);
+        let count = write_some(rt, &all[at..end], words);
         if count == 0 {
-            os::fail(words);
             return false;
         }
         at += count;
@@ -117,9 +133,26 @@ pub fn put(all: &[u8], words: &[u8]) -> bool {
     true
 }
 
-// Closes standard output, since some systems tell only then that what was written found no room.
-pub fn finish(words: &[u8]) {
-    if libc::close(STDOUT_FILENO) != 0 && os::errno() != EINTR {
-        os::fail(words);
+// Standard output as a file of the system.
+const OUTPUT: &str = "/proc/self/fd/1";
+
+// Has the system store what was written where standard output is a file. One that cannot be opened again is passed over.
+fn stored(rt: &HostRuntime) -> io::Result<()> {
+    let Ok(about) = fs::metadata(rt, OUTPUT) else {
+        return Ok(());
+    };
+    if !about.is_file() {
+        return Ok(());
+    }
+    let Ok(file) = File::open(rt, OUTPUT) else {
+        return Ok(());
+    };
+    file.sync_all()
+}
+
+// Has the system store what was written, since some systems tell only then that it found no room.
+pub fn finish(rt: &HostRuntime, words: &[u8]) {
+    if let Err(error) = stored(rt) {
+        tell(rt, words, &error);
     }
 }

@@ -10,23 +10,23 @@ use test_cases::text::{places, put, put_outcome, put_run, put_text};
 const OLD: u16 = 9999;
 
 // The curve for the case's setting and the place behind it; one place where ℓ is too large for the buffers.
-fn put_curve(c: Case, curve: &[u16]) {
+fn put_curve(rt: &HostRuntime, c: Case, curve: &[u16]) {
     let d = setting::derive(c.p, c.n, c.k, c.s, c.tau);
     if 24 < d.l {
-        put_run(curve, 1);
+        put_run(rt, curve, 1);
     } else {
-        put_run(curve, places(d.l + 1, d.w));
+        put_run(rt, curve, places(d.l + 1, d.w));
     }
 }
 
 // The check: its answer as 1 or 0.
-fn check(c: Case, points: &[u16], word: &[u16], curve: &[u16]) {
+fn check(rt: &HostRuntime, c: Case, points: &[u16], word: &[u16], curve: &[u16]) {
     let o = reader::check(c.p, c.n, c.k, c.s, c.tau, points, word, curve);
-    put(o.refusal as usize);
+    put(rt, o.refusal as usize);
     if o.yes {
-        put(1);
+        put(rt, 1);
     } else {
-        put(0);
+        put(rt, 0);
     }
 }
 
@@ -51,7 +51,7 @@ fn ask(
 }
 
 // The outcome of such a call, and then the curve that it found, or else the list with the place behind it.
-fn answer(call: u16, c: Case, points: &[u16], word: &[u16], given: &[u16]) {
+fn answer(rt: &HostRuntime, call: u16, c: Case, points: &[u16], word: &[u16], given: &[u16]) {
     let mut output = [OLD; 1537];
     let mut curve = [OLD; 6400];
     let mut work = [OLD; 60000];
@@ -65,36 +65,36 @@ fn answer(call: u16, c: Case, points: &[u16], word: &[u16], given: &[u16]) {
         &mut curve,
         &mut work,
     );
-    put_outcome(o.refusal, o.found, o.tried, &work);
+    put_outcome(rt, o.refusal, o.found, o.tried, &work);
     if call == 1 {
-        put_curve(c, &curve);
+        put_curve(rt, c, &curve);
     } else {
-        put_run(&output, places(o.found, c.k));
+        put_run(rt, &output, places(o.found, c.k));
     }
 }
 
 // The call that the case names, of which 2 is the check.
-fn run(call: u16, c: Case, points: &[u16], word: &[u16], curve: &[u16]) {
+fn run(rt: &HostRuntime, call: u16, c: Case, points: &[u16], word: &[u16], curve: &[u16]) {
     if call == 2 {
-        check(c, points, word, curve);
+        check(rt, c, points, word, curve);
     } else {
-        answer(call, c, points, word, curve);
+        answer(rt, call, c, points, word, curve);
     }
-    put_text(b"\n");
+    put_text(rt, b"\n");
 }
 
 // Lends the call the n points, the n symbols of the word and the curve, which stand one behind the other.
-fn lend(call: u16, c: Case, end: usize, all: &[u16; 6528])
+fn lend(rt: &HostRuntime, call: u16, c: Case, end: usize, all: &[u16; 6528])
     requires { (c.n + c.n ≤ end) × (end ≤ 6528) }
 {
     let n = c.n;
     let both = n + n;
     let lent: &[u16] = all;
-    run(call, c, &lent[0..n], &lent[n..both], &lent[both..end]);
+    run(rt, call, c, &lent[0..n], &lent[n..both], &lent[both..end]);
 }
 
 // Runs a case, and says whether it fits the buffers: behind the numbers given the input has the points, the word and a curve so long.
-fn case(call: u16, c: Case, long: usize) -> bool {
+fn case(rt: &HostRuntime, call: u16, c: Case, long: usize) -> bool {
     let n = c.n;
     if 64 < n {
         return false;
@@ -104,25 +104,25 @@ fn case(call: u16, c: Case, long: usize) -> bool {
     }
     let end = n + n + long;
     let mut all = [0u16; 6528];
-    take(&mut all[0..end]);
-    lend(call, c, end, &all);
+    take(rt, &mut all[0..end]);
+    lend(rt, call, c, end, &all);
     true
 }
 
 // The next case, and whether there was one; call 0 ends.
-fn turn() -> bool {
-    let call = next();
+fn turn(rt: &HostRuntime) -> bool {
+    let call = next(rt);
     if call == 0 {
         return false;
     }
-    case(call, read_case(), wide())
+    case(rt, call, read_case(rt), wide(rt))
 }
 
 // At most a thousand cases.
-fn main() {
+fn main(rt: HostRuntime) {
     let mut i: usize = 0;
     while i < 1000 {
-        if !turn() {
+        if !turn(&rt) {
             return;
         }
         i += 1;

@@ -16,33 +16,33 @@ fn joined(low: u8, high: u8) -> u16 {
 }
 
 // The next number; where the input has ended, 0.
-pub fn next() -> u16 {
+pub fn next(rt: &HostRuntime) -> u16 {
     let mut bytes = [0u8; 2];
-    streams::fill(&mut bytes, b"test_calls: cannot read standard input");
+    streams::fill(rt, &mut bytes, b"test_calls: cannot read standard input");
     joined(bytes[0], bytes[1])
 }
 
 // The next number, as wide as the calls take it.
-pub fn wide() -> usize {
-    next() as usize
+pub fn wide(rt: &HostRuntime) -> usize {
+    next(rt) as usize
 }
 
 // The next numbers, as many as out holds.
-pub fn take(out: &mut [u16]) {
+pub fn take(rt: &HostRuntime, out: &mut [u16]) {
     let mut i: usize = 0;
     while i < out.len() {
-        out[i] = next();
+        out[i] = next(rt);
         i += 1;
     }
 }
 
 // The setting that a case begins with.
-pub fn read_case() -> Case {
+pub fn read_case(rt: &HostRuntime) -> Case {
     Case {
-        p: wide(),
-        n: wide(),
-        k: wide(),
-        s: wide(),
-        tau: wide(),
+        p: wide(rt),
+        n: wide(rt),
+        k: wide(rt),
+        s: wide(rt),
+        tau: wide(rt),
     }
 }

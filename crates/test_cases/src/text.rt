@@ -1,31 +1,31 @@
 // Numbers on standard output, each with a space before it.
 
 // Text as it is.
-pub fn put_text(text: &[u8]) {
-    streams::put(text, b"test_calls: cannot write to standard output");
+pub fn put_text(rt: &HostRuntime, text: &[u8]) {
+    streams::put(rt, text, b"test_calls: cannot write to standard output");
 }
 
 // A number.
-pub fn put(x: usize) {
+pub fn put(rt: &HostRuntime, x: usize) {
     let mut text = [0u8; 20];
     let k = io::decimal(x as u64, &mut text);
-    put_text(b" ");
-    put_text(&text[..k]);
+    put_text(rt, b" ");
+    put_text(rt, &text[..k]);
 }
 
 // The same for a number of 16 bits.
-fn put_symbol(x: u16) {
-    put(x as usize);
+fn put_symbol(rt: &HostRuntime, x: u16) {
+    put(rt, x as usize);
 }
 
 // The run's first n numbers, or all where it has fewer.
-pub fn put_run(run: &[u16], n: usize) {
+pub fn put_run(rt: &HostRuntime, run: &[u16], n: usize) {
     let mut i: usize = 0;
     while i < n {
         if run.len() <= i {
             return;
         }
-        put_symbol(run[i]);
+        put_symbol(rt, run[i]);
         i += 1;
     }
 }
@@ -54,9 +54,9 @@ pub fn places(a: usize, b: usize) -> usize {
 }
 
 // Refusal, list length and beginnings, and how much of work is cleared.
-pub fn put_outcome(refusal: u16, found: usize, tried: usize, work: &[u16]) {
-    put_symbol(refusal);
-    put(found);
-    put(tried);
-    put(zeros(work));
+pub fn put_outcome(rt: &HostRuntime, refusal: u16, found: usize, tried: usize, work: &[u16]) {
+    put_symbol(rt, refusal);
+    put(rt, found);
+    put(rt, tried);
+    put(rt, zeros(work));
 }

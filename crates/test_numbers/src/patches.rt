@@ -4,7 +4,7 @@ ghost use Rattle.std.specs.Prelude.{◌≤◌};
 use crate::text::{put, put_symbol};
 
 // Encodes the first `symbols` symbols of the message at the first `points` points, with the first `room` numbers of the buffer lent.
-fn line(p: usize, n: usize, k: usize, points: usize, symbols: usize, room: usize)
+fn line(rt: &HostRuntime, p: usize, n: usize, k: usize, points: usize, symbols: usize, room: usize)
     requires { (points ≤ 8) × (symbols ≤ 3) × (room ≤ 10) }
 {
     let all = [0u16, 1, 2, 3, 4, 5, 6, 6];
@@ -18,39 +18,39 @@ fn line(p: usize, n: usize, k: usize, points: usize, symbols: usize, room: usize
         &message[0..symbols],
         &mut buffer[0..room],
     );
-    put(p, b' ');
-    put(n, b' ');
-    put(k, b' ');
-    put_symbol(refusal, b' ');
-    show(&buffer);
+    put(rt, p, b' ');
+    put(rt, n, b' ');
+    put(rt, k, b' ');
+    put_symbol(rt, refusal, b' ');
+    show(rt, &buffer);
 }
 
 // The numbers of the buffer, and the end of the line.
-fn show(buffer: &[u16; 10]) {
+fn show(rt: &HostRuntime, buffer: &[u16; 10]) {
     let mut i: usize = 0;
     while i < 9 {
-        put_symbol(buffer[i], b' ');
+        put_symbol(rt, buffer[i], b' ');
         i += 1;
     }
-    put_symbol(buffer[9], b'\n');
+    put_symbol(rt, buffer[9], b'\n');
 }
 
 // Every case of the call: p, n, k, how many points, how many symbols, how much room.
-pub fn run() {
+pub fn run(rt: &HostRuntime) {
     // Seven's patch, with room to spare, with just enough, and modulo 929
-    line(7, 7, 2, 7, 2, 10);
-    line(7, 7, 2, 7, 2, 7);
-    line(929, 7, 3, 7, 3, 10);
+    line(rt, 7, 7, 2, 7, 2, 10);
+    line(rt, 7, 7, 2, 7, 2, 7);
+    line(rt, 929, 7, 3, 7, 3, 10);
     // each refusal, lowest first
-    line(928, 7, 2, 7, 2, 10);
-    line(7, 65, 2, 7, 2, 10);
-    line(7, 7, 8, 7, 2, 10);
-    line(7, 7, 2, 6, 2, 10);
-    line(7, 7, 2, 7, 3, 10);
-    line(5, 7, 2, 7, 2, 10);
-    line(7, 7, 3, 7, 3, 10);
-    line(7, 8, 2, 8, 2, 10);
-    line(7, 7, 2, 7, 2, 6);
+    line(rt, 928, 7, 2, 7, 2, 10);
+    line(rt, 7, 65, 2, 7, 2, 10);
+    line(rt, 7, 7, 8, 7, 2, 10);
+    line(rt, 7, 7, 2, 6, 2, 10);
+    line(rt, 7, 7, 2, 7, 3, 10);
+    line(rt, 5, 7, 2, 7, 2, 10);
+    line(rt, 7, 7, 3, 7, 3, 10);
+    line(rt, 7, 8, 2, 8, 2, 10);
+    line(rt, 7, 7, 2, 7, 2, 6);
     // two causes at once: the lower number is given
-    line(7, 8, 3, 8, 3, 0);
+    line(rt, 7, 8, 3, 8, 3, 0);
 }

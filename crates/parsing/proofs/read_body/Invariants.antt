@@ -1,0 +1,13 @@
+-- read_body: after i numbers the first i of the body stand in front.
+use mathlib.Core.Path.{◌≡◌}
+use Prim.Native.Nat.{◌-◌, ◌≤◌}
+use lib.ListN.{take}
+use lib.Seq.{sets}
+use Rattle.rules.specs.Patch.{body}
+use Rattle.parsing.proofs.read_body.Given as goal
+
+abbrev pub invariant-loop-i : goal.invariant-loop-i
+invariant-loop-i l = (l.i ≤ l.m) × (l.out ≡ sets l.initial.out 0 (take l.i (body l.bytes)))
+
+abbrev pub decreases-loop-i : goal.decreases-loop-i
+decreases-loop-i l = l.m - l.i

@@ -1,0 +1,11 @@
+-- copy: the first i numbers are those of src, and in the end all are.
+use Prim.Native.Nat.{◌-◌, ◌≤◌}
+use lib.ListN.{length, get_or}
+use Rattle.buffers.specs.Change.{Changed}
+use Rattle.runs.proofs.copy.Given as goal
+
+abbrev pub invariant-loop-i : goal.invariant-loop-i
+invariant-loop-i l = (l.i ≤ length l.initial.dst) × Changed (λ k. get_or l.src k 0) 0 l.i l.initial.dst l.dst
+
+abbrev pub decreases-loop-i : goal.decreases-loop-i
+decreases-loop-i l = length l.initial.dst - l.i

@@ -1,0 +1,9 @@
+-- put: what stands in front of the next byte was written.
+use Rattle.std.proofs.Common.{◌-◌, ◌≤◌}
+use Rattle.streams.proofs.put.Given as goal
+
+abbrev pub invariant-loop-at : goal.invariant-loop-at
+invariant-loop-at l = l.at ≤ l.end
+
+abbrev pub decreases-loop-at : goal.decreases-loop-at
+decreases-loop-at l = l.end - l.at

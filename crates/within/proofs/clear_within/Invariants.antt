@@ -1,0 +1,10 @@
+-- clear_within: the first i numbers of the run are zero.
+use Prim.Native.Nat.{◌-◌, ◌≤◌}
+use Rattle.buffers.specs.Change.{Changed}
+use Rattle.within.proofs.clear_within.Given as goal
+
+abbrev pub invariant-loop-i : goal.invariant-loop-i
+invariant-loop-i l = (l.i ≤ l.n) × Changed (λ k. 0) l.b l.i l.initial.work l.work
+
+abbrev pub decreases-loop-i : goal.decreases-loop-i
+decreases-loop-i l = l.n - l.i
