@@ -11,7 +11,8 @@ from pathlib import Path
 from cases import TOP, until
 
 LAST = "7 passed, 0 failed"
-COMMANDS = "bash sh cat dirname mktemp rm sleep tail tee".split()
+BUILT = "whitebeamish patch test_numbers test_calls"
+COMMANDS = "bash sh cat dirname grep mktemp rm sleep tail tee".split()
 
 # What each stand-in does: it says its name, also at the end of the file SAID; FAILS names the one that fails.
 RT = f'echo "rt $*" | tee -a "$SAID"; [ "$FAILS" != "rt $1" ] && echo "{LAST}" || {{ echo "rt $1 failed"; exit 1; }}'
@@ -39,7 +40,7 @@ class Gate(unittest.TestCase):
         (self.top / "bin/python3").symlink_to(sys.executable)
         self.script("bin/rt", RT)
         self.script("bin/cargo", CARGO)
-        for part in ("tools/compare", "tools/link", "bench/test"):
+        for part in ("tools/build", "tools/compare", "tools/link", "bench/test"):
             self.script(part, PART)
 
     def script(self, name, text):
@@ -76,7 +77,7 @@ class Gate(unittest.TestCase):
         self.assertEqual(shown, [
             "rt ci",
             "cargo build --offline --release --quiet in second",
-            "gate: the archive", "rt staticlib whitebeamish",
+            "gate: the archive and the programs", "tools/build " + BUILT,
             "gate: second, its tests", "cargo test --offline --quiet in second",
             "gate: tools/compare", "tools/compare 5 145",
             "gate: tools/link", "tools/link --built 5 1850",
@@ -92,25 +93,33 @@ class Gate(unittest.TestCase):
         self.assert_fails("cargo test", "gate: FAILED: second, its tests ended with 1")
 
     def test_rt_is_through_before_a_part_begins(self):
-        """So that nothing but cargo runs beside a proof, and that only beside the archive's."""
-        self.script("bin/rt", f'[ $1 = ci ] || sleep 1; echo "rt $* is through" >> "$SAID"; echo "{LAST}"')
+        """So that nothing but cargo runs beside a proof, and that only beside the archive's and the programs'."""
+        self.script("bin/rt", f'echo "rt $* is through" >> "$SAID"; echo "{LAST}"')
+        self.script("tools/build", 'sleep 1; echo "built: $*" >> "$SAID"')
         self.assertEqual(self.run_gate()[0], 0)
         said = self.said()
         self.assertEqual((said[0], len(said)), ("rt ci is through", 7), said)
         parts = [said.index(line) for line in said if line.startswith(("tools/", "bench/"))]
         self.assertEqual(len(parts), 3, said)
-        self.assertLess(said.index("rt staticlib whitebeamish is through"), min(parts))
+        self.assertLess(said.index("built: " + BUILT), min(parts))
 
     def test_a_failure_of_rt_or_of_the_build_ends_it(self):
         """After a failure of rt ci nothing has begun, after one of the archive or of the build no part that needs them."""
         lines = self.assert_fails("rt ci", "rt ci failed")
         self.assertEqual([line for line in lines if line.startswith("gate:")], [])
         self.assertEqual(self.said(), ["rt ci"])
-        self.assert_fails("rt staticlib", "gate: FAILED: the archive ended with 1")
-        self.assertEqual([line for line in self.said() if line.startswith(("tools/", "bench/"))], [])
+        self.assert_fails("tools/build", "gate: FAILED: the archive and the programs ended with 1")
+        self.assertEqual([line for line in self.said() if line.startswith(("tools/", "bench/"))], ["tools/build " + BUILT])
         lines = self.assert_fails("cargo build", "cargo build failed")
         self.assertEqual([line for line in lines if line.startswith("gate:")], [])
-        self.assertEqual([line for line in self.said() if line.startswith(("tools/", "bench/"))], [])
+        self.assertEqual([line for line in self.said() if line.startswith(("tools/", "bench/")) and "build" not in line], [])
+
+    def test_an_edit_that_could_not_be_tried_ends_it(self):
+        """rt passes with it; the line is that of the kit."""
+        self.script("bin/rt", f'echo "rt: ok: 42 crates; must-fail edits: 124 refused, 1 bad"; echo "{LAST}"')
+        self.assert_fails("", "gate: FAILED: an edit could not be tried")
+        self.script("bin/rt", f'echo "rt: ok: 42 crates; must-fail edits: 120 refused, 0 bad"; echo "{LAST}"')
+        self.assertEqual(self.run_gate()[0], 0)
 
     def test_a_part_that_is_missing_or_killed_fails(self):
         self.script("tools/link", "kill -9 $$")

@@ -225,8 +225,8 @@ class OtherTrees(unittest.TestCase):
     """A tree with one program, and a kit that builds slowly and does not bear two builds at a time."""
 
     KIT = {
-        "rt": 'case $1 in doc) echo "$KIT/docs/START-HERE.md" ;; check) mkdir "$KIT/busy" || exit 1; echo built >> "$KIT/log"; sleep 0.5\n'
-        'mkdir -p target/bin; printf "#!/bin/sh\\ncat\\n" > target/bin/$2; chmod +x target/bin/$2; rmdir "$KIT/busy" ;; esac\n',
+        "rt": 'case $1 in doc) echo "$KIT/START-HERE.md" ;; run) mkdir "$KIT/busy" || exit 1; echo built >> "$KIT/log"; sleep 0.5\n'
+        'mkdir -p out; printf "#!/bin/sh\\ncat\\n" > out/patch; chmod +x out/patch; rmdir "$KIT/busy" ;; esac\n',
         "toolchain/lib/ld-linux-x86-64.so.2": 'shift 2; exec "$@"\n',
     }
 
@@ -238,7 +238,8 @@ class OtherTrees(unittest.TestCase):
         (self.top / "crates/patch/src/main.rt").write_text("")
         (self.top / "crates.txt").write_text("patch:\n")
         (self.top / "tools").mkdir()
-        shutil.copy(RUN, self.top / "tools/run")
+        for name in ("run", "build"):
+            shutil.copy(TOP / "tools" / name, self.top / "tools" / name)
         for name, text in self.KIT.items():
             self.write(self.kit / name, text)
 
