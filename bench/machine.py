@@ -30,7 +30,7 @@ def model():
 
 def emulator():
     """The emulator that tools/run takes on this machine, or None."""
-    kit = Path(said("rt", "doc")).parent.parent
+    kit = Path(said("rt", "doc")).parent
     found = kit / "on" / platform.machine() / "toolchain/bin/qemu-x86_64"
     return found if os.access(found, os.X_OK) else None
 

@@ -1,5 +1,5 @@
 //! Links libwhitebeamish.a from the folder that WHITEBEAMISH_LIB names, or else from ../target/staticlib,
-//! where `rt staticlib whitebeamish` writes it.
+//! where `tools/build whitebeamish` writes it.
 
 use std::env;
 use std::path::PathBuf;
@@ -18,7 +18,7 @@ fn main() {
     };
     let archive = folder.join("libwhitebeamish.a");
     if !archive.is_file() {
-        let make = "run `rt staticlib whitebeamish` in the repository, or set WHITEBEAMISH_LIB to the archive's folder";
+        let make = "run `tools/build whitebeamish` in the repository, or set WHITEBEAMISH_LIB to the archive's folder";
         stop(&format!("there is no {}: {make}", archive.display()));
     }
     println!("cargo:rerun-if-changed={}", archive.display());

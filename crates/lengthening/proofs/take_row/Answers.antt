@@ -1,0 +1,7 @@
+-- take_row: what the two calls change, put together.
+use Rattle.lengthening.proofs.Rows.{row_taken}
+use Rattle.lengthening.proofs.take_row.Goals as goal
+
+pub returns : goal.returns
+returns c =
+    row_taken c.args.l c.requires.1 c.add_within.ensures c.carry.ensures
