@@ -4,14 +4,10 @@ use Rattle.patch.proofs.take.Goals as goal
 
 pub returns : goal.returns
 returns c =
-    let at-lines = c in
-    let at-step = at-lines in
-    let at-lent = at-step in
-    let start = at-lent in
     record {
-      call = record { before = _; after = _; done = at-step.step-done.result };
-      cut = start.requires.3;
-      stepped = at-step.step-done.ensures;
+      call = record { before = _; after = _; done = c.step-done.result };
+      cut = c.requires.3;
+      stepped = c.step-done.ensures;
       is_held = refl;
       is_more = refl;
     }

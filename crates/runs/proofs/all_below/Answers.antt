@@ -10,17 +10,15 @@ use Rattle.runs.proofs.all_below.Goals as goal
 pub returns-then-symbols-i : goal.returns-then-symbols-i
 unfolding under
 returns-then-symbols-i c =
-    let at-loop = c in
-    let l = at-loop.loop-i in
-    let a = at-loop.args in
+    let l = c.loop-i in
+    let a = c.args in
     scan_fails (all_scan (λ x. ltb x a.p)) _ l.i l.invariant (omega arith) (le-ltb (get_or a.symbols.now l.i 0) a.p c.if-symbols-i.true)
 
 pub loop-i-preserved : goal.loop-i-preserved
 unfolding under
 loop-i-preserved c =
-    let at-loop = c in
-    let l = at-loop.loop-i in
-    let a = at-loop.args in
+    let l = c.loop-i in
+    let a = c.args in
     scan_more (all_scan (λ x. ltb x a.p)) _ l.i l.invariant (omega arith) (lt-ltb (get_or a.symbols.now l.i 0) a.p c.if-symbols-i.false)
 
 pub returns : goal.returns

@@ -7,17 +7,15 @@ use Rattle.runs.proofs.all_distinct.Goals as goal
 
 pub returns-then-not-is_new : goal.returns-then-not-is_new
 returns-then-not-is_new c =
-    let at-loop = c in
-    let l = at-loop.loop-i in
-    let a = at-loop.args in
+    let l = c.loop-i in
+    let a = c.args in
     scan_fails distinct_scan _ l.i l.invariant (omega arith)
     (new_of_part a.points.now (l.i + 1) _ c.is_new.ensures ∙ c.if-not-is_new.true)
 
 pub loop-i-preserved : goal.loop-i-preserved
 loop-i-preserved c =
-    let at-loop = c in
-    let l = at-loop.loop-i in
-    let a = at-loop.args in
+    let l = c.loop-i in
+    let a = c.args in
     scan_more distinct_scan _ l.i l.invariant (omega arith)
     (new_of_part a.points.now (l.i + 1) _ c.is_new.ensures ∙ c.if-not-is_new.false)
 

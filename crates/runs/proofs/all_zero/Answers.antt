@@ -10,16 +10,14 @@ use Rattle.runs.proofs.all_zero.Goals as goal
 pub returns-then-run-i-ne0 : goal.returns-then-run-i-ne0
 unfolding blank
 returns-then-run-i-ne0 c =
-    let at-loop = c in
-    let l = at-loop.loop-i in
-    scan_fails (all_scan (λ x. eqb x 0)) _ l.i l.invariant (omega arith) (ne_eqb (get_or at-loop.args.run.now l.i 0) 0 c.if-run-i-ne0.true)
+    let l = c.loop-i in
+    scan_fails (all_scan (λ x. eqb x 0)) _ l.i l.invariant (omega arith) (ne_eqb (get_or c.args.run.now l.i 0) 0 c.if-run-i-ne0.true)
 
 pub loop-i-preserved : goal.loop-i-preserved
 unfolding blank
 loop-i-preserved c =
-    let at-loop = c in
-    let l = at-loop.loop-i in
-    scan_more (all_scan (λ x. eqb x 0)) _ l.i l.invariant (omega arith) (eq-eqb (get_or at-loop.args.run.now l.i 0) 0 c.if-run-i-ne0.false)
+    let l = c.loop-i in
+    scan_more (all_scan (λ x. eqb x 0)) _ l.i l.invariant (omega arith) (eq-eqb (get_or c.args.run.now l.i 0) 0 c.if-run-i-ne0.false)
 
 pub returns : goal.returns
 unfolding blank

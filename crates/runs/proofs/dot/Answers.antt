@@ -12,10 +12,8 @@ loop-i-init c = (search rules, search rules, total_none _ _)
 
 pub loop-i-preserved : goal.loop-i-preserved
 loop-i-preserved c =
-    let at-loop = c in
-    let start = at-loop in
-    let l = at-loop.loop-i in
-    let x = start.args in (
+    let l = c.loop-i in
+    let x = c.args in (
       search rules,
       search rules,
       total_more x.q l.sum _ l.i _ l.invariant.2 (ap (λ (n : ℕ). n % x.q) c.wide-product.ensures.0 ∙ times_is x.q _ _),
@@ -23,5 +21,4 @@ loop-i-preserved c =
 
 pub remainder-requires : goal.remainder-requires
 remainder-requires c =
-    let start = c in
-    omega (arith, modulus_two start.args.q start.requires.0)
+    omega (arith, modulus_two c.args.q c.requires.0)

@@ -17,9 +17,8 @@ loop-i-init c = let x = c.args in (search rules, eval_none x.q x.f.now x.x)
 
 pub loop-i-preserved : goal.loop-i-preserved
 loop-i-preserved c =
-    let at-loop = c in
-    let l = at-loop.loop-i in
-    let x = at-loop.args in (
+    let l = c.loop-i in
+    let x = c.args in (
       search rules,
       c.mixed_by-sum.ensures ∙ ap (λ (v : ℕ). plus x.q (get_or x.f.now (l.i - 1) 0) (times x.q x.x v)) l.invariant.1
           ∙ eval_more x.q x.f.now x.x l.i (omega arith) (omega arith),

@@ -17,13 +17,11 @@ loop-i-init c = (search rules, moved_none _ _, search rules)
 
 pub loop-i-preserved : goal.loop-i-preserved
 loop-i-preserved c =
-    let at-loop = c in
-    let start = at-loop in
-    let l = at-loop.loop-i in
-    let x = start.args in (
+    let l = c.loop-i in
+    let x = c.args in (
       search rules,
       l.invariant.2.high (x.b + l.i) (omega arith) ∙ moved_more _ x.b l.i,
       changed_more (x.b + l.i) _ l.invariant.2 (omega arith) (search rules)
           (c.mixed_by.ensures ∙ ap₂ (λ (u v : ℕ). plus x.q u (times x.q x.c v)) l.invariant.1
-          (read_ahead x.a x.b x.n l.i l.invariant.2 start.requires.1 (omega arith))),
+          (read_ahead x.a x.b x.n l.i l.invariant.2 c.requires.1 (omega arith))),
     )
