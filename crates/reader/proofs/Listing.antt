@@ -20,7 +20,6 @@ use Rattle.terms.specs.declared.Terms.{Terms}
 use Rattle.terms.specs.Terms.{Settled, Posed}
 use Rattle.reader.specs.Calls.{listing, nothing, counts}
 use Rattle.engine.specs.Word.{Listable, Listed}
-use Rattle.refusals.proofs.Answers.{holds, fails}
 use Rattle.terms.proofs.First.{setting_refuses, others_decide}
 use Rattle.rules.proofs.Lowest.{named, lowest_none, here, later, first_refuses, first_accept}
 use Rattle.rules.proofs.Given.{Given, given, point_named}
@@ -86,17 +85,17 @@ module _ {S : Setting} {t : Terms} {points word Q output work : List ℕ} {numbe
 
   -- b: whether the curve passes
   module _ (none : number ≡ 0) {b : Bool} (e : b ≡ passes (ops t.q) S.k t.w t.l (triples t.s points word) Q) where
-    pub list_fails : not b ≡ true → {r : Outcome} → r ≡ nothing 9
+    pub list_fails : b ≡ false → {r : Outcome} → r ≡ nothing 9
         → listing r.refusal r.found r.tried output work ≡ list_call S points word Q output work
     list_fails no_fit =
-        let failing = fails (e ∙ settled.fits_is h.settled points word Q) no_fit in
+        let failing = sym (e ∙ settled.fits_is h.settled points word Q) ∙ no_fit in
         refused S points word Q output work (here 9 _ [] (ap not failing) ∙ h.nine none) (λ z. omega arith)
 
-    module _ (fit : not b ≡ false) where
+    module _ (fit : b ≡ true) where
       pub listable : Listable t.q S.k t.w t.l t.s points word Q output (mid_of 0 (t.room - 0) work)
       listable =
           let g = h.granted none in
-          settled.listable h.settled g.given (rw (holds e fit) tt) g.output_fits (length_front _ _ g.work_fits)
+          settled.listable h.settled g.given (rw (sym e ∙ fit) tt) g.output_fits (length_front _ _ g.work_fits)
 
       -- the lent front of work is back
       pub list_accepted : {output' front : List ℕ} {tally : Tally}
@@ -105,7 +104,7 @@ module _ {S : Setting} {t : Terms} {points word Q output work : List ℕ} {numbe
           → listing r.refusal r.found r.tried output' (put_mid 0 (t.room - 0) work front) ≡ list_call S points word Q output work
       unfolding list_call
       list_accepted o is =
-          let passing = holds (e ∙ settled.fits_is h.settled points word Q) fit in
+          let passing = sym (e ∙ settled.fits_is h.settled points word Q) ∙ fit in
           let accepted = later 9 _ [] (ap not passing) lowest_none ∙ h.nine none in
           let same = settled.list_is h.settled points word Q in
           let clear = cleared_front t.room work (h.granted none).work_fits o.cleared in
