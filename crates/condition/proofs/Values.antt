@@ -1,23 +1,32 @@
 -- The value of a curve is that of its slot, where the curve is alive.
 use mathlib.Core.Path.{◌≡◌}
 use mathlib.Core.List.{List}
-use Prim.Native.Nat.{ℕ, ◌+◌, ◌-◌, ◌*◌, ◌<◌}
+use Prim.Native.Nat.{ℕ, ◌+◌, ◌-◌, ◌*◌, ◌<◌, ◌≤◌}
+use native.Mathlib.Nat.{add-sub_cancel_left}
 use native.Mathlib.Numerals.{add-one}
 use native.Mathlib.Omega.{arith}
-use borrow.Author.Tests.{lt-ltb}
+use borrow.Author.Tests.{lt-ltb, le-ltb}
 use lib.Dec.{ltb}
-use lib.ListN.{get_or}
+use lib.ListN.{get_or, take, drop}
 use Rattle.rules.specs.Curve.{total}
 use Rattle.rules.proofs.Tests.{either}
 use Rattle.prime.proofs.Below.{plus_below, modulus_two}
 use Rattle.weights.specs.Shape.{Shaped}
 use Rattle.weights.specs.Value.{pairing}
-use Rattle.slots.specs.Slot.{curve_at}
+use Rattle.slots.specs.Slot.{slot, curve_at}
 use Rattle.condition.specs.Valued.{valued}
 
 module _ (q k w l : ℕ) (x y leads work : List ℕ) (j : ℕ) where
   pub valued_alive : get_or leads j 0 + j * (k - 1) < w → pairing q k w l x y (curve_at w l work j) ≡ valued q k w l x y leads work j
   valued_alive h = simp (lt-ltb _ _ h)
+
+  pub valued_dead : w ≤ get_or leads j 0 + j * (k - 1) → 0 ≡ valued q k w l x y leads work j
+  valued_dead h = simp (le-ltb _ _ h)
+
+  -- the part that is lent is the slot
+  pub valued_part : {at s : ℕ} → at ≡ j * slot w l → s ≡ slot w l → get_or leads j 0 + j * (k - 1) < w →
+      pairing q k w l x y (take (at + s - at) (drop at work)) ≡ valued q k w l x y leads work j
+  valued_part {at} {s} a b h = rw (add-sub_cancel_left, a, b) (valued_alive h)
 
 module _ {q k w l : ℕ} (s : Shaped q k w l) where
   pub pairing_below : (x y c : List ℕ) → pairing q k w l x y c < q

@@ -3,6 +3,7 @@ use mathlib.Core.Path.{◌≡◌, refl, ap, ap₂, ◌∙◌}
 use mathlib.Core.Logic.{⊎_elim, by_cases}
 use mathlib.Core.List.{List}
 use Prim.Native.Nat.{ℕ, zero, suc, ◌+◌, ◌-◌, ◌*◌, ◌<◌, ◌≤◌}
+use native.Mathlib.Nat.{mul-le-mul}
 use native.Mathlib.Decide.{ℕ_discrete}
 use native.Mathlib.Omega.{arith}
 use lib.ListN.{get_or}
@@ -12,7 +13,14 @@ use Rattle.buffers.specs.Change.{Changed}
 use Rattle.buffers.proofs.Change.{lt_or_ge}
 use Rattle.buffers.proofs.Rows.{row_fits}
 use Rattle.within.specs.Runs.{RunsApart, added, moved, shifted}
+use Rattle.weights.specs.Shape.{Shaped}
 use Rattle.slots.specs.Slot.{slot, place, mixed_at, raised_at, Treated}
+
+pub slot_small : {q k w l : ℕ} → Shaped q k w l → slot w l ≤ 25 * 256
+slot_small s = mul-le-mul {n₂ = 25} {m₂ = 256} (omega (arith, s.few)) s.narrow
+
+pub treated_none : (f : ℕ → ℕ → ℕ) (at k w : ℕ) (d : List ℕ) → Treated f at k w 0 d d
+treated_none f at k w d = record { len = refl; new = λ t i l. absurd (omega arith); keep = λ m h. refl }
 
 module _ {f : ℕ → ℕ → ℕ} {at k w n : ℕ} {d e : List ℕ} (h : Treated f at k w n d e) where
   -- a place that no earlier row has is still the old

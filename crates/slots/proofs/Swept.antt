@@ -1,5 +1,5 @@
 -- How the curves are swept one after the other: what is done to a slot leaves the others, and so the curve that is taken off.
-use mathlib.Core.Path.{◌≡◌, ap, ap₂, ◌∙◌}
+use mathlib.Core.Path.{◌≡◌, refl, ap, ap₂, ◌∙◌}
 use mathlib.Core.Logic.{⊎_elim, by_cases, inl, inr}
 use mathlib.Core.List.{List}
 use Prim.Native.Nat.{ℕ, ◌+◌, ◌-◌, ◌*◌, ◌<◌}
@@ -35,6 +35,9 @@ pub ratio_is : (q over v : ℕ) {less : ℕ} → T (modulus q) → less ≡ minu
 ratio_is q over v m e = plus_from_zero q _ (times_below q m v _) ∙ ap (times q v) e
 
 module _ (q k w l p over : ℕ) (values d : List ℕ) where
+  pub swept_none : Swept q k w l p over values 0 d d
+  swept_none = record { len = refl; new = λ j t i u. absurd (omega arith); keep = λ m h. refl }
+
   module _ {n : ℕ} {e : List ℕ} (S : Swept q k w l p over values n d e) where
     -- a curve whose value is zero stays
     pub swept_skip : get_or values n 0 ≡ 0 → Swept q k w l p over values (n + 1) d e

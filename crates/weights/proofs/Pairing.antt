@@ -30,6 +30,10 @@ part_of f s n ys = ap (λ (m : ℕ). f (mid_of s m ys)) (add-sub_cancel_left s n
 pub row_inside : (k w l t : ℕ) → l * (k - 1) < w → t ≤ l → (t * (k - 1) < w) × (t * w + w ≤ (l + 1) * w)
 row_inside k w l t s h = (omega (arith, mul-le-mul_right (k - 1) h), row_fits w (omega arith))
 
+-- the two parts that a dot product is taken of are equally long
+pub parts_long : (n at : ℕ) (x c : List ℕ) → n ≤ length x → at + n ≤ length c → (length (mid_of 0 (n - 0) x) ≡ n) × (length (mid_of at (at + n - at) c) ≡ n)
+parts_long n at x c h g = (len_mid 0 (n - 0) x (omega arith) ∙ sub-zero n, len_mid at (at + n - at) c (omega arith) ∙ add-sub_cancel_left at n)
+
 -- the sum over the first t rows, by the dot product of row t, grows by its share
 module _ (q k w : ℕ) (x y c : List ℕ) where
   pub pairing_none : 0 ≡ total (ops q) 0 (share q k w x y c)

@@ -5,7 +5,8 @@ use Prim.Native.Nat.{ℕ, zero, suc, ◌+◌, ◌-◌, ◌*◌, ◌<◌, ◌≤�
 use native.Mathlib.Numerals.{add-one}
 use native.Mathlib.Omega.{arith}
 use lib.Dec.{T}
-use lib.ListN.{get_or}
+use lib.ListN.{length, get_or}
+use borrow.Author.Count.{below_more}
 use Rattle.rules.specs.Field.{ops, plus, times, modulus}
 use Rattle.algebra.specs.Conditions.{weight}
 use Rattle.prime.proofs.Below.{times_below, plus_swapped, plus_from_zero}
@@ -39,6 +40,18 @@ module _ (q α : ℕ) where
         let is : get_or e ((suc a - 1) * 256 + i) 0 ≡ weight (ops q) α a i = ap (λ (k : ℕ). get_or e k 0) at ∙ h.low (a * 256 + i) (omega arith)
         ∙ w.row a (omega arith) i l in
         rw (is, add-one) (plus_swapped q _ _)
+
+  pub weights_more : {a n : ℕ} {d e : List ℕ} → n ≤ 256 → Weights q α a n d → Changed (weight (ops q) α a) (a * 256) n d e → Weights q α (a + 1) n e
+  weights_more {a} {n} {d} {e} u w h = record {
+    len = h.len ∙ w.len;
+    row = below_more (λ b. (i : ℕ) → i < n → get_or e (b * 256 + i) 0 ≡ weight (ops q) α b i) a
+        (λ b l i il. h.low (b * 256 + i) (omega arith) ∙ w.row b l i il)
+        (λ i il. h.new i il);
+  }
+
+  -- the first row alone
+  pub weights_first : {n : ℕ} {d e : List ℕ} → n ≤ 256 → length d ≡ 1024 → Changed (weight (ops q) α 0) 0 n d e → Weights q α 1 n e
+  weights_first u w h = weights_more {a = 0} u (record { len = w; row = λ a l. absurd (omega arith) }) h
 
 -- the weights of fewer orders
 pub fewer : {q α m m' n : ℕ} {ws : List ℕ} → Weights q α m n ws → m' ≤ m → Weights q α m' n ws
