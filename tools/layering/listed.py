@@ -31,7 +31,7 @@ def lines(text):
             name, colon, names = line.partition("#")[0].partition(":")
             if not colon:
                 raise ListError(f"line {number}: expected NAME: NAME NAME")
-            yield name.strip(), names.split(), words, heading
+            yield name.strip().partition(" ")[0], names.split(), words, heading
             words = ""
 
 

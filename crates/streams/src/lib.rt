@@ -3,7 +3,7 @@
 
 ghost use Rattle.std.specs.Prelude.{◌≤◌, length};
 
-use std::fs::File;
+use std::fs::{File, OpenOptions};
 use std::io::{Error, ErrorKind, Read, Write};
 use std::time::Duration;
 use std::{fs, io, thread};
@@ -136,23 +136,37 @@ pub fn put(rt: &HostRuntime, all: &[u8], words: &[u8]) -> bool {
 // Standard output as a file of the system.
 const OUTPUT: &str = "/proc/self/fd/1";
 
-// Has the system store what was written where standard output is a file. One that cannot be opened again is passed over.
+// Standard output opened once more: to go on behind its end, or where that may not be, to read it.
+fn opened(rt: &HostRuntime) -> io::Result<File> {
+    match OpenOptions::new().append(true).open(rt, OUTPUT) {
+        Ok(file) => Ok(file),
+        Err(_) => File::open(rt, OUTPUT),
+    }
+}
+
+// Has the system store what was written where standard output is a file. One that cannot be opened once more is passed over; that it is closed shows at a write of nothing.
 fn stored(rt: &HostRuntime) -> io::Result<()> {
+    rt.stdout().write(b"")?;
     let Ok(about) = fs::metadata(rt, OUTPUT) else {
         return Ok(());
     };
     if !about.is_file() {
         return Ok(());
     }
-    let Ok(file) = File::open(rt, OUTPUT) else {
+    let Ok(file) = opened(rt) else {
         return Ok(());
     };
     file.sync_all()
 }
 
-// Has the system store what was written, since some systems tell only then that it found no room.
+// Has the system store what was written, since some systems tell only then that it found no room. What cannot be stored, or is interrupted, is no failure.
 pub fn finish(rt: &HostRuntime, words: &[u8]) {
     if let Err(error) = stored(rt) {
-        tell(rt, words, &error);
+        match error.kind() {
+            ErrorKind::Interrupted => {}
+            ErrorKind::InvalidInput => {}
+            ErrorKind::Unsupported => {}
+            _ => tell(rt, words, &error),
+        }
     }
 }
