@@ -144,9 +144,16 @@ fn opened(rt: &HostRuntime) -> io::Result<File> {
     }
 }
 
+// What the system answers where no file stands behind a descriptor: EBADF.
+const CLOSED: i32 = 9;
+
 // Has the system store what was written where standard output is a file. One that cannot be opened once more is passed over; that it is closed shows at a write of nothing.
 fn stored(rt: &HostRuntime) -> io::Result<()> {
-    rt.stdout().write(b"")?;
+    if let Err(error) = rt.stdout().write(b"") {
+        if error.raw_os_error() == Some(CLOSED) {
+            return Err(error);
+        }
+    }
     let Ok(about) = fs::metadata(rt, OUTPUT) else {
         return Ok(());
     };
