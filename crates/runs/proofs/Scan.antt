@@ -1,42 +1,34 @@
--- A test of a list that goes from its front: it holds where it holds of the first place and of the rest.
--- What is passed changes nothing, and the first failure decides.
-use mathlib.Core.Path.{◌≡◌, refl, sym, ◌∙◌, ap}
-use mathlib.Core.Bool.{Bool, true, false, not, ◌&&◌}
+-- The library's tests of a list are those of rules.
+use mathlib.Core.Path.{◌≡◌, refl, sym, ap, ap₂, ◌∙◌}
+use mathlib.Core.Bool.{Bool, not, ◌&&◌}
 use mathlib.Core.List.{List, [], ◌∷◌}
-use Prim.Native.Nat.{ℕ, ◌+◌, ◌-◌, ◌<◌, ◌≤◌}
+use Prim.Native.Nat.{ℕ, ◌+◌}
 use native.Mathlib.Omega.{arith}
-use native.Mathlib.Numerals.{add-one}
 use lib.Dec.{eqb}
-use lib.ListN.{length, take, drop, get_or, length-drop, drop_of_length-le}
-use lib.Seq.{drop-cons, take_all}
+use lib.ListN.{length, drop}
+use Rattle.std.specs.List.{list_all, list_any, enumerate_from, between}
+use Rattle.std.proofs.lemmas.Grind.{common_steps}
+use Rattle.std.proofs.lemmas.Bool.Decides.{nat_tests}
+use Rattle.std.proofs.lemmas.List.{drop-drop}
+use Rattle.std.proofs.lemmas.Slice.{between_to_end}
 use Rattle.rules.specs.Lists.{all, distinct}
 
-pub record Scan (F : List ℕ → Bool) (head : ℕ → List ℕ → Bool) : Type 0 where
-  pub none : F [] ≡ true
-  pub more : (x : ℕ) (xs : List ℕ) → F (x ∷ xs) ≡ head x xs && F xs
-
-module _ {F : List ℕ → Bool} {head : ℕ → List ℕ → Bool} (S : Scan F head) (xs : List ℕ) (i : ℕ) (e : F xs ≡ F (drop i xs)) where
-  at : i < length xs → F xs ≡ head (get_or xs i 0) (drop (i + 1) xs) && F (drop (i + 1) xs)
-  at l = e ∙ ap F (drop-cons xs i 0 l) ∙ rw add-one (S.more _ _)
-
-  pub scan_more : i < length xs → head (get_or xs i 0) (drop (i + 1) xs) ≡ true → F xs ≡ F (drop (i + 1) xs)
-  scan_more l t = at l ∙ ap (λ b. b && F (drop (i + 1) xs)) t
-
-  pub scan_fails : i < length xs → head (get_or xs i 0) (drop (i + 1) xs) ≡ false → false ≡ F xs
-  scan_fails l t = sym (at l ∙ ap (λ b. b && F (drop (i + 1) xs)) t)
-
-  pub scan_ends : length xs ≤ i → true ≡ F xs
-  scan_ends l = sym (e ∙ ap F (drop_of_length-le xs l) ∙ S.none)
-
-pub all_scan : (test : ℕ → Bool) → Scan (all test) (λ x _. test x)
+pub all_is : {A : Type 0} (test : A → Bool) (xs : List A) → list_all test xs ≡ all test xs
 unfolding all
-all_scan test = record { none = refl; more = λ x xs. refl }
+all_is test [] = refl
+all_is test (x ∷ xs) = ap (λ b. test x && b) (all_is test xs)
 
-pub distinct_scan : Scan (distinct eqb) (λ x xs. all (λ y. not (eqb x y)) xs)
+-- none of the list is x
+new_is : (x : ℕ) (xs : List ℕ) → not (list_any (λ y. eqb y x) xs) ≡ all (λ y. not (eqb x y)) xs
+unfolding all
+new_is x [] = refl
+new_is x (y ∷ xs) = grind (arith, common_steps, nat_tests, new_is x xs)
+
+-- of the list xs, whose rest from place i on is ys
+pub each_new : (xs : List ℕ) (i : ℕ) (ys : List ℕ) → drop i xs ≡ ys
+    → list_all (λ p. not (list_any (λ y. eqb y p.1) (between (p.0 + 1) (length xs) xs))) (enumerate_from i ys) ≡ distinct eqb ys
 unfolding distinct
-distinct_scan = record { none = refl; more = λ x xs. refl }
-
--- what is_new says of the part behind place i, said of the rest
-pub new_of_part : (xs : List ℕ) (i x : ℕ) {r : Bool} → r ≡ all (λ y. not (eqb x y)) (take (length xs - i) (drop i xs))
-    → all (λ y. not (eqb x y)) (drop i xs) ≡ r
-new_of_part xs i x e = sym (e ∙ ap (all (λ y. not (eqb x y))) (take_all (length xs - i) (drop i xs) (simp length-drop (omega arith))))
+each_new xs i [] e = refl
+each_new xs i (y ∷ ys) e =
+    let f : drop (i + 1) xs ≡ ys = sym (drop-drop 1 i xs) ∙ ap (drop 1) e in
+    ap₂ ◌&&◌ (ap (λ zs. not (list_any (λ z. eqb z y) zs)) (between_to_end xs (i + 1) (length xs) (omega arith) ∙ f) ∙ new_is y ys) (each_new xs (i + 1) ys f)

@@ -1,10 +1,12 @@
 -- A polynomial's value, from its last coefficient on.
 use mathlib.Core.Path.{◌≡◌, refl, sym, ap, ◌∙◌}
-use mathlib.Core.List.{List}
+use mathlib.Core.List.{List, [], ◌∷◌, reverse}
 use Prim.Native.Nat.{ℕ, suc, ◌-◌, ◌<◌, ◌≤◌}
 use native.Mathlib.Omega.{arith}
 use lib.ListN.{length, get_or, drop}
 use lib.Seq.{drop-cons, drop-length}
+use Rattle.std.specs.List.{fold}
+use Rattle.std.proofs.lemmas.Grind.{common_steps}
 use Rattle.rules.specs.Code.{eval}
 use Rattle.rules.specs.Field.{ops, plus, times}
 
@@ -21,5 +23,12 @@ module _ (q : ℕ) (f : List ℕ) (x : ℕ) where
       ap (λ (n : ℕ). plus q (get_or f (i - 1) 0) (times q x (eval (ops q) (drop n f) x))) (sym e)
       ∙ sym (ap (λ (l : List ℕ). eval (ops q) l x) (drop-cons f (i - 1) 0 (omega arith)))
 
-  pub eval_all : (i : ℕ) → i ≡ 0 → eval (ops q) (drop i f) x ≡ eval (ops q) f x
-  eval_all i e = rw e refl
+module _ (q x : ℕ) where
+  -- one step of Horner's rule
+  abbrev pub horner : ℕ → ℕ → ℕ
+  horner sum c = plus q c (times q x sum)
+
+  pub fold_back : (f : List ℕ) → fold horner 0 (reverse f) ≡ eval (ops q) f x
+  unfolding eval
+  fold_back [] = refl
+  fold_back (c ∷ f) = grind (arith, common_steps, fold_back f)

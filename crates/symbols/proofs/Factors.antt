@@ -2,7 +2,7 @@
 use mathlib.Core.Path.{◌≡◌, sym, ap, ap₂, ◌∙◌}
 use mathlib.Core.Logic.{⊎_elim}
 use Prim.Native.Nat.{ℕ, ◌+◌, ◌-◌, ◌*◌, ◌/◌, ◌%◌, ◌<◌, ◌≤◌}
-use native.Mathlib.Nat.{mod-lt, mod_self, mod-eq_of_lt, zero-mod, mul-add, add-mul, mul-zero, mul-one, mul_left_comm, div-add-mod', div-le_self, add-mul-mod_self_left, add-mod, dvd-mod_iff, dvd_of_mod-eq-zero, mod-eq-zero_of_dvd, le_of_dvd, eq-or-lt_of_le, pos_of_ne-zero}
+use native.Mathlib.Nat.{mod-lt, mod_self, zero-mod, mul-add, add-mul, mul-zero, mul-one, mul_left_comm, div-add-mod', div-le_self, add-mul-mod_self_left, add-mod, dvd-mod_iff, dvd_of_mod-eq-zero, mod-eq-zero_of_dvd, le_of_dvd, eq-or-lt_of_le, pos_of_ne-zero}
 use native.Mathlib.Omega.{arith}
 use lib.Dec.{T}
 use Rattle.rules.specs.Field.{ops, plus, times, modulus, inverse}
@@ -43,12 +43,8 @@ module _ (q r0 r1 s0 s1 : ℕ) where
       ∙ add-mul-mod_self_left (r0 % r1) q r1
 
   module _ (h : Chain q r0 r1 s0 s1) where
-    pub quotient : r0 / r1 ≤ q
+    quotient : r0 / r1 ≤ q
     quotient = omega (arith, div-le_self r0 r1, h.first)
-
-    -- the last remainder
-    pub ends : r1 ≡ 1 → Factor q r0 r1 s0 s1 s1
-    ends e = record { below = h.below; one = λ a e0 e1. e1 ∙ ap (λ (x : ℕ). x % q) e ∙ mod-eq_of_lt (modulus_two q h.field) }
 
     -- what the call is handed
     pub hands : {x : ℕ} → x ≡ next_factor → ¬ (r1 ≡ 1) → Chain q r1 (r0 % r1) s1 x

@@ -1,7 +1,7 @@
 -- Division by the reciprocal m of q: for x of 32 bits, the upper half t of x·m is the quotient x / q or one less.
 use mathlib.Core.Path.{◌≡◌, sym, ap, ◌∙◌}
 use Prim.Native.Nat.{ℕ, suc, ◌+◌, ◌-◌, ◌*◌, ◌/◌, ◌%◌, ◌<◌, ◌≤◌}
-use native.Mathlib.Nat.{mul-le-mul_left, mul-le-mul_right, mul_assoc, mul_right_comm, add-mul, suc-mul, mul-add, mul-one, div-mul-le_self, lt-div-mul-add, add-mul-mod_self_right, mod-eq_of_lt}
+use native.Mathlib.Nat.{mul-le-mul_left, mul-le-mul_right, mul_assoc, mul_right_comm, add-mul, suc-mul, mul-add, div-mul-le_self, lt-div-mul-add, add-mul-mod_self_right, mod-eq_of_lt}
 use native.Mathlib.Omega.{arith}
 use Rattle.symbols.specs.Reciprocal.{Reciprocal}
 
@@ -9,7 +9,7 @@ use Rattle.symbols.specs.Reciprocal.{Reciprocal}
 remainder_is : (x q k r : ℕ) → r < q → x ≡ r + k * q → r ≡ x % q
 remainder_is x q k r l e = sym (ap (λ (y : ℕ). y % q) e ∙ add-mul-mod_self_right r k q ∙ mod-eq_of_lt l)
 
-module _ (x q m : ℕ) (o : 0 < q) (is : Reciprocal q m) (fits : x < 4294967296) where
+module _ (x q m : ℕ) (two : 1 < q) (is : Reciprocal q m) (fits : x < 4294967296) where
   abbrev t : ℕ
   t = x * m / 4294967296
 
@@ -17,7 +17,7 @@ module _ (x q m : ℕ) (o : 0 < q) (is : Reciprocal q m) (fits : x < 4294967296)
   below = rw is (div-mul-le_self 4294967295 q)
 
   above : 4294967296 ≤ m * q + q
-  above = rw is (omega (arith, lt-div-mul-add {a = 4294967295} {b = q} o))
+  above = rw is (omega (arith, lt-div-mul-add {a = 4294967295} {b = q} (omega arith)))
 
   -- the multiple of q that is taken away is not above x
   pub low : t * q ≤ x
@@ -44,9 +44,6 @@ module _ (x q m : ℕ) (o : 0 < q) (is : Reciprocal q m) (fits : x < 4294967296)
         mul_assoc x m q,
         mul-le-mul_right q small,
       )
-
-  pub small : t ≤ x
-  small = omega (arith, low, mul-le-mul_left t o, mul-one t)
 
   pub once : q ≤ x - t * q → (x - t * q - q < q) × (x - t * q - q ≡ x % q)
   once l =

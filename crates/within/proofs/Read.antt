@@ -2,11 +2,13 @@
 use mathlib.Core.Path.{◌≡◌, refl, ap, ◌∙◌}
 use mathlib.Core.Logic.{◌⊎◌, ⊎_elim}
 use mathlib.Core.List.{List}
-use Prim.Native.Nat.{ℕ, ◌+◌, ◌-◌, ◌<◌, ◌≤◌}
+use Prim.Native.Nat.{ℕ, zero, suc, ◌+◌, ◌-◌, ◌<◌, ◌≤◌}
 use native.Mathlib.Numerals.{add-one}
 use native.Mathlib.Omega.{arith}
 use borrow.Author.Tests.{lt-ltb, le-ltb}
-use lib.ListN.{get_or}
+use Rattle.std.proofs.Common.{add-zero}
+use lib.ListN.{length, get_or, set, length-set}
+use lib.Seq.{get_or-set_same, get_or-set_other}
 use Rattle.buffers.specs.Change.{Changed}
 use Rattle.buffers.proofs.Change.{lt_or_ge}
 use Rattle.within.specs.Runs.{RunsApart, moved, cut}
@@ -27,6 +29,24 @@ moved_none d b = refl
 pub moved_more : (d : List ℕ) (b i : ℕ) → get_or d (b + i) 0 ≡ moved d b (i + 1)
 unfolding moved
 moved_more d b i = rw add-one refl
+
+-- the run is copied one place on, and its first place is cleared
+pub moved_on : {d e : List ℕ} (b n : ℕ) → 0 < n → b + n ≤ length d → Changed (λ i. get_or d (b + i) 0) (b + 1) (n - 1) d e → Changed (moved d b) b n d (set e b 0)
+moved_on {d} {e} b n l fits h = record {
+  len = length-set e b 0 ∙ h.len;
+  new = elim [ zero ↦ λ m. first | suc k ↦ λ m. next k m ];
+  low = λ k m. get_or-set_other e b k 0 0 (λ q. omega arith) ∙ h.low k (omega arith);
+  high = λ k m. get_or-set_other e b k 0 0 (λ q. omega arith) ∙ h.high k (omega arith);
+}
+  where
+    first : get_or (set e b 0) (b + 0) 0 ≡ moved d b 0
+    first = rw add-zero (get_or-set_same e b 0 0 (omega (arith, h.len)) ∙ moved_none d b)
+
+    next : (k : ℕ) → suc k < n → get_or (set e b 0) (b + suc k) 0 ≡ moved d b (suc k)
+    next k m =
+        let q : b + suc k ≡ b + 1 + k = omega arith in
+        get_or-set_other e b (b + suc k) 0 0 (λ q. omega arith) ∙ ap (λ (i : ℕ). get_or e i 0) q ∙ h.new k (omega arith)
+        ∙ moved_more d b k ∙ ap (moved d b) (add-one k)
 
 pub cut_low : (d : List ℕ) (a v n i : ℕ) → i + v < n → get_or d (a + (i + v)) 0 ≡ cut d a v n i
 unfolding cut

@@ -1,19 +1,15 @@
 -- The values at the points, one after the other, are the patch.
-use mathlib.Core.Path.{◌≡◌, refl, sym, ◌∙◌}
-use mathlib.Core.List.{List, [], ◌∷◌, map}
-use Prim.Native.Nat.{ℕ, zero, suc, ◌<◌}
+use mathlib.Core.Path.{◌≡◌, sym, ◌∙◌}
+use mathlib.Core.List.{List}
+use Prim.Native.Nat.{ℕ}
 use native.Mathlib.Omega.{arith}
 use lib.ListN.{length, get_or, length-map}
 use lib.Seq.{ext_get_or}
+use Rattle.std.proofs.lemmas.List.{get_or-map}
 use Rattle.rules.specs.Field.{ops}
 use Rattle.rules.specs.Code.{eval, encode}
 use Rattle.buffers.specs.Change.{Changed}
 use Rattle.buffers.proofs.Change.{changed_front}
-
-value_at : (f : ℕ → ℕ) (xs : List ℕ) (i : ℕ) → i < length xs → f (get_or xs i 0) ≡ get_or (map f xs) i 0
-value_at f [] i l = absurd (omega arith)
-value_at f (x ∷ xs) zero l = refl
-value_at f (x ∷ xs) (suc i) l = value_at f xs i (omega arith)
 
 module _ (q : ℕ) (points message : List ℕ) where
   pub length_patch : length (encode (ops q) points message) ≡ length points
@@ -25,4 +21,4 @@ module _ (q : ℕ) (points message : List ℕ) where
       → e ≡ encode (ops q) points message
   unfolding encode
   patch_is {d} {e} j h all same = ext_get_or 0 e _ (h.len ∙ sym same ∙ sym length_patch)
-      (λ i l. changed_front h i (omega (arith, h.len)) ∙ value_at (eval (ops q) message) points i (omega (arith, h.len)))
+      (λ i l. changed_front h i (omega (arith, h.len)) ∙ sym (get_or-map (eval (ops q) message) points i 0 0 (omega (arith, h.len))))

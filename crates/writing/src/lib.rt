@@ -1,20 +1,19 @@
 // A message's patch.
 #![tactic(auto)]
 
-ghost use Rattle.std.specs.Prelude.{◌≡◌, T, length};
-ghost use Rattle.rules.specs.Field.{ops, modulus};
+ghost use Rattle.std.specs.Prelude.{◌≡◌, length};
+ghost use Rattle.rules.specs.Field.{ops};
 ghost use Rattle.rules.specs.Code.{encode};
 
 use runs::eval;
+use symbols::Field;
 
 // The values of the message's polynomial at the points.
-pub fn write_patch(q: u16, points: &[u16], message: &[u16], patch: &mut [u16])
-    requires { T (modulus q) × (length points.now ≡ length patch.old) }
-    ensures { patch.new ≡ encode (ops q) points.now message.now }
+pub fn write_patch(field: Field, points: &[u16], message: &[u16], patch: &mut [u16])
+    requires { length points.now ≡ length patch.old }
+    ensures { patch.new ≡ encode (ops field.q) points.now message.now }
 {
-    let mut j: usize = 0;
-    while j < points.len() {
-        patch[j] = eval(q, message, points[j]);
-        j += 1;
+    for (j, &x) in points.iter().enumerate() {
+        patch[j] = eval(field, message, x);
     }
 }

@@ -1,26 +1,13 @@
--- all_below: what is passed is below p, so that the test is that of the rest.
-use native.Mathlib.Omega.{arith}
-use lib.ListN.{get_or}
-use lib.Dec.{ltb}
-use borrow.Author.Tests.{lt-ltb, le-ltb}
+-- all_below: the library's test is the definition's.
+use Rattle.std.proofs.Common.{◌∙◌, ltb, rules, tests}
+use Rattle.std.proofs.lemmas.Iterator.{YieldsList-from_slice}
+use Rattle.std.proofs.lemmas.Iterator.Search.{all_from_yields_List}
 use Rattle.rules.specs.Refusal.{under}
-use Rattle.runs.proofs.Scan.{scan_more, scan_fails, scan_ends, all_scan}
+use Rattle.runs.proofs.Scan.{all_is}
 use Rattle.runs.proofs.all_below.Goals as goal
-
-pub returns-then-symbols-i : goal.returns-then-symbols-i
-unfolding under
-returns-then-symbols-i c =
-    let l = c.loop-i in
-    let a = c.args in
-    scan_fails (all_scan (λ x. ltb x a.p)) _ l.i l.invariant (omega arith) (le-ltb (get_or a.symbols.now l.i 0) a.p c.if-symbols-i.true)
-
-pub loop-i-preserved : goal.loop-i-preserved
-unfolding under
-loop-i-preserved c =
-    let l = c.loop-i in
-    let a = c.args in
-    scan_more (all_scan (λ x. ltb x a.p)) _ l.i l.invariant (omega arith) (lt-ltb (get_or a.symbols.now l.i 0) a.p c.if-symbols-i.false)
 
 pub returns : goal.returns
 unfolding under
-returns c = scan_ends (all_scan _) _ c.loop-i.i c.loop-i.invariant (omega arith)
+returns c =
+    all_from_yields_List (λ x. ltb x c.args.p) _ _ _ c.all.ensures.ran (YieldsList-from_slice c.args.symbols.now cc) (λ x b q k. search (rules, tests))
+    ∙ all_is _ _

@@ -1,23 +1,16 @@
--- all_distinct: what is passed is none of those behind it, so that the test is that of the rest.
-use Prim.Native.Nat.{◌+◌}
-use mathlib.Core.Path.{◌∙◌}
-use Rattle.runs.proofs.Scan.{scan_more, scan_fails, scan_ends, distinct_scan, new_of_part}
-use native.Mathlib.Omega.{arith}
+-- all_distinct: the library's test of each point and those behind it is the definition's.
+use Rattle.std.proofs.Common.{refl, ◌∙◌, ◌+◌, not, eqb, length, rules, tests}
+use Rattle.std.specs.List.{list_any, between}
+use Rattle.std.proofs.lemmas.Iterator.{YieldsList-from_slice}
+use Rattle.std.proofs.lemmas.Iterator.Consumers.{YieldsList-from_enumerate, YieldsList-at}
+use Rattle.std.proofs.lemmas.Iterator.Search.{all_from_yields_List}
+use Rattle.runs.proofs.Scan.{each_new}
 use Rattle.runs.proofs.all_distinct.Goals as goal
 
-pub returns-then-not-is_new : goal.returns-then-not-is_new
-returns-then-not-is_new c =
-    let l = c.loop-i in
-    let a = c.args in
-    scan_fails distinct_scan _ l.i l.invariant (omega arith)
-    (new_of_part a.points.now (l.i + 1) _ c.is_new.ensures ∙ c.if-not-is_new.true)
-
-pub loop-i-preserved : goal.loop-i-preserved
-loop-i-preserved c =
-    let l = c.loop-i in
-    let a = c.args in
-    scan_more distinct_scan _ l.i l.invariant (omega arith)
-    (new_of_part a.points.now (l.i + 1) _ c.is_new.ensures ∙ c.if-not-is_new.false)
-
 pub returns : goal.returns
-returns c = scan_ends distinct_scan _ c.loop-i.i c.loop-i.invariant (omega arith)
+returns c =
+    let xs = c.args.points.now in
+    all_from_yields_List (λ p. not (list_any (λ y. eqb y p.1) (between (p.0 + 1) (length xs) xs))) _ _ _ c.all.ensures.ran
+    (YieldsList-from_enumerate (YieldsList-at c.enumerate.ensures.source (YieldsList-from_slice xs cc)) c.enumerate.ensures.count)
+    (λ x b q k. search (rules, tests))
+    ∙ each_new xs 0 xs refl

@@ -1,20 +1,11 @@
--- shift: the first i numbers of the run are changed, and last is the old one before the next.
-use mathlib.Core.Path.{◌∙◌}
-use Prim.Native.Nat.{◌+◌}
-use Rattle.buffers.proofs.Change.{changed_more}
-use Rattle.within.proofs.Read.{moved_none, moved_more}
-use native.Mathlib.Omega.{arith}
-use borrow.Author.Rules.{rules}
+-- shift: the run is copied one place on, and its first place is cleared.
+use Rattle.std.proofs.Common.{◌+◌, ◌-◌, get_or, rules}
+use Rattle.buffers.specs.Change.{Changed}
+use Rattle.within.proofs.Read.{moved_on}
 use Rattle.within.proofs.shift.Goals as goal
 
-pub loop-i-init : goal.loop-i-init
-loop-i-init c = (search rules, moved_none _ _, search rules)
-
-pub loop-i-preserved : goal.loop-i-preserved
-loop-i-preserved c =
-    let l = c.loop-i in
-    let x = c.args in (
-      search rules,
-      l.invariant.2.high (x.b + l.i) (omega arith) ∙ moved_more _ x.b l.i,
-      changed_more (x.b + l.i) _ l.invariant.2 (omega arith) (search rules) l.invariant.1,
-    )
+pub returns-then-n-gt0 : goal.returns-then-n-gt0
+returns-then-n-gt0 c =
+    let x = c.args in
+    let copied : Changed (λ i. get_or x.work.now (x.b + i) 0) (x.b + 1) (x.n - 1) x.work.now c.copy_within.new.self = search rules in
+    moved_on x.b x.n c.if-n-gt0.true c.requires copied

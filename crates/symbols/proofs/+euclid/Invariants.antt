@@ -1,5 +1,0 @@
--- euclid: the second remainder falls.
-use Rattle.symbols.proofs.+euclid.Given as goal
-
-abbrev pub decreases-euclid : goal.decreases-euclid
-decreases-euclid l = l.r1
