@@ -3,3 +3,4 @@ pub mod Scan
 pub mod Values
 pub mod Places
 pub mod Keep
+pub mod Start

@@ -18,6 +18,10 @@ pub record First (k w l : ℕ) (leads values : List ℕ) (p : ℕ) : Type 0 wher
   pub least : (j : ℕ) → In (space k w l) (get_or leads j 0) j → ¬ (get_or values j 0 ≡ 0) →
       rank (space k w l) (get_or leads p 0) p ≤ rank (space k w l) (get_or leads j 0) j
 
+-- no curve that is alive has a value that is not zero
+abbrev pub Quiet : ℕ → ℕ → ℕ → List ℕ → List ℕ → Type 0
+Quiet k w l leads values = (j : ℕ) → In (space k w l) (get_or leads j 0) j → get_or values j 0 ≡ 0
+
 -- p is that curve, or ℓ + 1 where there is none
 abbrev pub Picked : ℕ → ℕ → ℕ → List ℕ → List ℕ → ℕ → Type 0
 Picked k w l leads values p = ((p ≡ l + 1) × ((j : ℕ) → In (space k w l) (get_or leads j 0) j → get_or values j 0 ≡ 0)) ⊎ First k w l leads values p

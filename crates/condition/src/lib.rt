@@ -1,101 +1,105 @@
 // One condition: the values of the curves, the curve that is raised, and what the others lose.
 #![tactic(auto)]
 
-ghost use Rattle.std.specs.Prelude.{◌≡◌, ◌+◌, ◌*◌, ◌<◌, ◌≤◌, length};
-ghost use Rattle.buffers.specs.Change.{Changed};
-ghost use Rattle.weights.specs.Shape.{Shaped};
-ghost use Rattle.slots.specs.Slot.{slot};
+ghost use Rattle.std.specs.Prelude.{MatchOption, ◌≡◌, ℕ, ◌+◌, ◌*◌, ◌<◌, ◌≤◌, length, get_or, replicate};
+ghost use Rattle.slots.specs.Slot.{slot, curve_at, Started};
 ghost use Rattle.condition.specs.Valued.{valued};
-ghost use Rattle.condition.specs.Kept.{Fit, Picked, Met};
+ghost use Rattle.condition.specs.Kept.{Fit, First, Quiet, Met};
 
-use slots::{raise, room, sweep};
-use symbols::inv;
-use weights::value;
+use slots::{raise, start, sweep};
+use weights::{Curve, ROWS, Shape, value};
 
-// The values of a condition at the curves that are alive, and 0 for the others. x and y are its weights.
-fn evaluate(
-    q: u16,
-    k: usize,
-    w: usize,
-    l: usize,
-    x: &[u16],
-    y: &[u16],
-    leads: &[usize],
-    work: &[u16],
-    values: &mut [u16],
-)
-    requires { Shaped q k w l × (length x.now ≡ w) × (length y.now ≡ l + 1) × (l < length leads.now) × Fit k w l leads.now
-        × ((l + 1) * slot w l ≤ length work.now) × (l < length values.old) }
-    ensures { Changed (valued q k w l x.now y.now leads.now work.now) 0 (l + 1)
-        values.old values.new }
-{
-    let s = room(q, k, w, l);
-    let mut j: usize = 0;
-    let mut at: usize = 0;
-    let mut off: usize = 0;
-    while j <= l {
-        let e = at + s;
-        let weight = leads[j] + off;
-        let mut v: u16 = 0;
-        if weight < w {
-            v = value(q, k, w, l, x, y, &work[at..e]);
-        }
-        values[j] = v;
-        at = e;
-        off += k - 1;
-        j += 1;
-    }
+// The finder's curves, of one shape: the column of each one's leading term, and their numbers in the slots of a lent buffer.
+#[derive(Drop)]
+pub struct Basis<'a> {
+    pub shape: Shape,
+    pub leads: [usize; ROWS],
+    pub work: &'a mut [u16],
+    pub ghost fit: { Fit shape.k shape.w shape.l leads },
+    pub ghost room: { (shape.l + 1) * slot shape.w shape.l ≤ length work.now },
 }
 
-// Of the curves that are alive and whose value is not zero, the one of the least leading term; l + 1 where there is none.
-pub fn pivot(q: u16, k: usize, w: usize, l: usize, leads: &[usize], values: &[u16]) -> usize
-    requires { Shaped q k w l × (l < length leads.now) × (l < length values.now) × Fit k w l leads.now }
-    ensures { Picked k w l leads.now values.now result }
-{
-    let mut best = l + 1;
-    let mut least = w;
-    let mut j: usize = 0;
-    let mut off: usize = 0;
-    while j <= l {
-        let weight = leads[j] + off;
-        if values[j] != 0 {
-            if weight < least {
-                best = j;
+impl<'a> Basis<'a> {
+    // The powers of y, before any condition.
+    pub fn new(shape: Shape, work: &'a mut [u16]) -> Basis<'a>
+        requires { (shape.l + 1) * slot shape.w shape.l ≤ length work.old }
+        ensures same { result.shape ≡ shape }
+        ensures lent { result.work.ghost_name ≡ work.entry.ghost_name }
+        ensures leads { result.leads ≡ replicate 25 0 }
+        ensures started { Started shape.w shape.l result.work.now }
+    {
+        start(shape, work);
+        Basis {
+            shape,
+            leads: [0; ROWS],
+            work,
+        }
+    }
+
+    // Curve j.
+    pub fn curve(&self, j: usize) -> Curve<'_>
+        requires { j ≤ self.now.shape.l }
+        ensures same { result.shape ≡ self.now.shape }
+        ensures numbers { result.numbers.now ≡ curve_at self.now.shape.w self.now.shape.l self.now.work.now j }
+    {
+        let shape = self.shape;
+        let size = shape.size();
+        let at = j * size;
+        let numbers = &self.work[at..at + size];
+        Curve { shape, numbers }
+    }
+
+    // The values of a condition at the curves that are alive, and 0 for the others; l is at most 24. x and y are the weights of the condition.
+    fn evaluate(&self, x: &[u16], y: &[u16]) -> [u16; ROWS]
+        requires { (length x.now ≡ self.now.shape.w) × (length y.now ≡ self.now.shape.l + 1) }
+        ensures { (j : ℕ) → j < self.now.shape.l + 1 → get_or result j 0
+            ≡ valued self.now.shape.field.q self.now.shape.k self.now.shape.w self.now.shape.l x.now y.now self.now.leads self.now.work.now j }
+    {
+        let shape = self.shape;
+        let mut values = [0; ROWS];
+        for j in 0..shape.l + 1 {
+            if self.leads[j] + j * (shape.k - 1) < shape.w {
+                values[j] = value(self.curve(j), x, y);
+            }
+        }
+        values
+    }
+
+    // Of the curves that are alive and whose value is not zero, the one of the least leading term.
+    pub fn pivot(&self, values: &[u16]) -> Option<usize>
+        requires { self.now.shape.l < length values.now }
+        ensures { MatchOption result (Quiet self.now.shape.k self.now.shape.w self.now.shape.l self.now.leads values.now)
+            (First self.now.shape.k self.now.shape.w self.now.shape.l self.now.leads values.now) }
+    {
+        let mut best = None;
+        let mut least = self.shape.w;
+        for j in 0..self.shape.l + 1 {
+            let weight = self.leads[j] + j * (self.shape.k - 1);
+            if values[j] != 0 && weight < least {
+                best = Some(j);
                 least = weight;
             }
         }
-        off += k - 1;
-        j += 1;
+        best
     }
-    best
-}
 
-// One condition, whose weights are x and y: every other curve that misses it loses the multiple of the pivot that makes it meet it,
-// and the pivot is multiplied by x − α.
-pub fn condition(
-    q: u16,
-    k: usize,
-    w: usize,
-    l: usize,
-    alpha: u16,
-    x: &[u16],
-    y: &[u16],
-    leads: &mut [usize],
-    work: &mut [u16],
-)
-    requires { Shaped q k w l × (length x.now ≡ w) × (length y.now ≡ l + 1) × (l < length leads.old) × Fit k w l leads.old
-        × ((l + 1) * slot w l ≤ length work.old) }
-    ensures { Met q k w l alpha x.now y.now leads.old leads.new work.old work.new }
-{
-    let mut values = [0u16; 25];
-    evaluate(q, k, w, l, x, y, leads, work, &mut values);
-    let p = pivot(q, k, w, l, leads, &values);
-    if p <= l {
-        let over = inv(q, values[p]);
-        values[p] = 0;
-        sweep(q, k, w, l, p, over, &values, work);
-        let s = room(q, k, w, l);
-        raise(q, k, w, l, alpha, work, p * s);
-        leads[p] += 1;
+    // One condition, whose weights are x and y: every other curve that misses it loses the multiple of the pivot that makes it meet it,
+    // and the pivot is multiplied by x − α.
+    pub fn condition(&mut self, alpha: u16, x: &[u16], y: &[u16])
+        requires { (length x.now ≡ self.old.shape.w) × (length y.now ≡ self.old.shape.l + 1) }
+        ensures same { self.new.shape ≡ self.old.shape }
+        ensures lent { self.new.work.ghost_name ≡ self.old.work.ghost_name }
+        ensures met { Met self.old.shape.field.q self.old.shape.k self.old.shape.w self.old.shape.l alpha x.now y.now
+            self.old.leads self.new.leads self.old.work.now self.new.work.now }
+    {
+        let shape = self.shape;
+        let mut values = self.evaluate(x, y);
+        if let Some(p) = self.pivot(&values) {
+            let over = shape.field.inverse(values[p]);
+            values[p] = 0;
+            sweep(shape, p, over, &values, self.work);
+            raise(shape, alpha, self.work, p * shape.size());
+            self.leads[p] += 1;
+        }
     }
 }

@@ -4,13 +4,12 @@ use mathlib.Core.Bool.{Bool, true, false, not, ◌&&◌}
 use mathlib.Core.List.{List, map}
 use Prim.Native.Nat.{ℕ, zero, suc, ◌+◌, ◌-◌, ◌<◌, Fin}
 use native.Mathlib.Omega.{arith}
-use lib.Dec.{T, T_not, not_T, eqb}
+use lib.Dec.{T, eqb}
 use Rattle.rules.specs.Lists.{all}
 use Rattle.rules.specs.Field.{Ops, ops, modulus, alike}
-use Rattle.rules.specs.Code.{Triple, zeros}
+use Rattle.rules.specs.Code.{Triple}
 use Rattle.rules.specs.Curve.{total, coefficient, weighted, hasse, through, passes}
 use Rattle.rules.specs.Refusal.{under}
-use Rattle.rules.proofs.Tests.{both, test_false}
 use Rattle.algebra.specs.Conditions.{Condition, condition, carry}
 use Rattle.algebra.specs.Space.{space, value}
 use Rattle.algebra.proofs.Bridge.{coefficient_hom, hasse_hom, weighted_hom}
@@ -60,26 +59,15 @@ module _ (q k w l : ℕ) (c : List ℕ) (m : T (modulus q)) where
     unfolding met through condition
     met_through z = below_same _ _ z.times (λ a u. below_same _ _ (z.times - a) (λ b v. sym (hasse_test (condition z b a))))
 
--- the three tests of a passing curve, one after the other
-module _ (q k w l : ℕ) (zs : List (Triple ℕ)) (c : List ℕ) where
-  passes_three : T (passes (ops q) k w l zs c) → T (not (zeros (ops q) c)) × T (weighted (ops q) k w l c)
-  unfolding passes
-  passes_three t = both (not (zeros (ops q) c)) (weighted (ops q) k w l c)
-      (both (not (zeros (ops q) c) && weighted (ops q) k w l c) (all (through (ops q) w l c) zs) t).0
-
-  pub zero_fails : T (under q c) → T (blank c) → false ≡ passes (ops q) k w l zs c
-  zero_fails u b = test_false _ (λ t. T_not (zeros (ops q) c) (passes_three t).0 (subst T (sym (zeros_blank q c u)) b))
-
-  pub wide_fails : ¬ (T (weighted (ops q) k w l c)) → false ≡ passes (ops q) k w l zs c
-  wide_fails n = test_false _ (λ t. n (passes_three t).1)
-
-  pub met_passes : T (modulus q) → T (under q c) → ¬ (T (blank c)) → T (weighted (ops q) k w l c) → all (met q k w l c) zs ≡ passes (ops q) k w l zs c
-  unfolding passes
-  met_passes m u b s =
-      ap (λ test. all test zs) (fun_ext (met_through q k w l c m s))
-      ∙ last (not (zeros (ops q) c)) (weighted (ops q) k w l c) _ (not_T (zeros (ops q) c) (λ z. b (subst T (zeros_blank q c u) z))) s
-    where
-      last : (x y z : Bool) → T x → T y → z ≡ x && y && z
-      last true true z s t = refl
-      last true false z s t = absurd t
-      last false y z s t = absurd s
+-- the three tests of a passing curve, as the check makes them
+pub passes_tests : (q k w l : ℕ) (zs : List (Triple ℕ)) (c : List ℕ) → T (modulus q) → T (under q c) →
+    passes (ops q) k w l zs c ≡ not (blank c) && weighted (ops q) k w l c && all (met q k w l c) zs
+unfolding passes
+passes_tests q k w l zs c m u =
+    rw (zeros_blank q c u) (last (not (blank c)) (weighted (ops q) k w l c) _ _
+    (λ s. ap (λ test. all test zs) (sym (fun_ext (met_through q k w l c m s)))))
+  where
+    last : (x y r s : Bool) → (T y → r ≡ s) → x && y && r ≡ x && y && s
+    last true true r s h = h tt
+    last true false r s h = refl
+    last false y r s h = refl

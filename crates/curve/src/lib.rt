@@ -1,81 +1,54 @@
 // The check of a curve: whether it passes for the triples.
 #![tactic(auto)]
 
-ghost use Rattle.std.specs.Prelude.{◌≡◌, ℕ, ◌+◌, ◌-◌, ◌*◌, ◌<◌, ◌≤◌, T, length};
+ghost use Rattle.std.specs.Prelude.{◌≡◌, ◌≤◌, T};
 ghost use Rattle.rules.specs.Field.{ops};
 ghost use Rattle.rules.specs.Lists.{all};
 ghost use Rattle.rules.specs.Curve.{weighted, passes};
 ghost use Rattle.rules.specs.Refusal.{under};
-ghost use Rattle.weights.specs.Triples.{tripled, Checkable};
+ghost use Rattle.weights.specs.Triples.{tripled};
 ghost use Rattle.multiplicity.specs.Met.{met};
+ghost use Rattle.curve.specs.Behind.{behind};
 
 use multiplicity::through;
 use runs::all_zero;
+use weights::{Curve, Triples};
+
+// What row t holds behind the part that can be nonzero.
+fn behind<'a>(curve: Curve<'a>, t: usize) -> &'a [u16]
+    requires { t ≤ curve.shape.l }
+    ensures { result.now ≡ behind curve.entry.shape.k curve.entry.shape.w t curve.entry.numbers.now }
+{
+    let shape = curve.shape;
+    let row = &curve.numbers[t * shape.w..][..shape.w];
+    &row[shape.row(t)..]
+}
 
 // Whether each coefficient with i + t·(k−1) ≥ w is zero: of each row what lies behind the part that can be nonzero.
-fn weighted(k: usize, w: usize, l: usize, curve: &[u16]) -> bool
-    requires { (1 ≤ k) × (k ≤ 64) × (w ≤ 256) × (l * (k - 1) < w) × (l ≤ 24) × (length curve.now ≡ (l + 1) * w) }
-    ensures { (q : ℕ) → T (under q curve.now) → result ≡ weighted (ops q) k w l curve.now }
+fn weighted(curve: Curve<'_>) -> bool
+    requires { T (under curve.shape.field.q curve.numbers.now) }
+    ensures { result ≡ weighted (ops curve.entry.shape.field.q) curve.entry.shape.k curve.entry.shape.w curve.entry.shape.l curve.entry.numbers.now }
 {
-    let mut t: usize = 0;
-    let mut at: usize = 0;
-    let mut off: usize = 0;
-    while t <= l {
-        let s = at + (w - off);
-        let e = at + w;
-        if !all_zero(&curve[s..e]) {
-            return false;
-        }
-        at += w;
-        off += k - 1;
-        t += 1;
-    }
-    true
+    (0..curve.shape.l + 1).all(|t| all_zero(behind(curve, t)))
 }
 
 // Whether the curve meets the conditions of every triple.
-fn through_all(
-    q: u16,
-    k: usize,
-    w: usize,
-    l: usize,
-    points: &[u16],
-    word: &[u16],
-    times: &[u16],
-    curve: &[u16],
-) -> bool
-    requires { Checkable q k w l points.now word.now times.now curve.now }
-    ensures { result ≡ all (met q k w l curve.now) (tripled points.now word.now times.now) }
+fn through_all(curve: Curve<'_>, triples: Triples<'_>) -> bool
+    ensures { result ≡ all (met curve.entry.shape.field.q curve.entry.shape.k curve.entry.shape.w curve.entry.shape.l curve.entry.numbers.now) (tripled triples.entry.points.now triples.entry.word.now triples.entry.times.now) }
 {
-    let mut j: usize = 0;
-    while j < points.len() {
-        if !through(q, k, w, l, points[j], word[j], times[j] as usize, curve) {
-            return false;
-        }
-        j += 1;
-    }
-    true
+    triples
+        .points
+        .iter()
+        .zip(triples.word)
+        .zip(triples.times)
+        .all(|((&alpha, &symbol), &times)| through(curve, alpha, symbol, usize::from(times)))
 }
 
 // Whether the curve passes for the triples.
-pub fn passes(
-    q: u16,
-    k: usize,
-    w: usize,
-    l: usize,
-    points: &[u16],
-    word: &[u16],
-    times: &[u16],
-    curve: &[u16],
-) -> bool
-    requires { Checkable q k w l points.now word.now times.now curve.now × T (under q curve.now) }
-    ensures { result ≡ passes (ops q) k w l (tripled points.now word.now times.now) curve.now }
+#[tactic(auto, using(crate::proofs::Check::passes_tests))]
+pub fn passes(curve: Curve<'_>, triples: Triples<'_>) -> bool
+    requires { T (under curve.shape.field.q curve.numbers.now) }
+    ensures { result ≡ passes (ops curve.entry.shape.field.q) curve.entry.shape.k curve.entry.shape.w curve.entry.shape.l (tripled triples.entry.points.now triples.entry.word.now triples.entry.times.now) curve.entry.numbers.now }
 {
-    if all_zero(curve) {
-        return false;
-    }
-    if !weighted(k, w, l, curve) {
-        return false;
-    }
-    through_all(q, k, w, l, points, word, times, curve)
+    !all_zero(curve.numbers) && weighted(curve) && through_all(curve, triples)
 }

@@ -5,7 +5,7 @@ use mathlib.Core.List.{List, []}
 use Prim.Native.Nat.{ℕ, ◌+◌, ◌-◌, ◌*◌, ◌<◌, ◌≤◌}
 use native.Mathlib.Decide.{ℕ_discrete}
 use native.Mathlib.Omega.{arith}
-use lib.ListN.{get_or}
+use lib.ListN.{get_or, get_or-replicate}
 use Rattle.rules.specs.Field.{Ops}
 use Rattle.rules.specs.Laws.{Laws}
 use Rattle.algebra.specs.Space.{Space, space}
@@ -17,6 +17,7 @@ use Rattle.weights.specs.Shape.{Shaped}
 use Rattle.slots.specs.Slot.{slot, place, Started}
 use Rattle.condition.specs.Kept.{view, Kept}
 use Rattle.weights.proofs.Pairing.{row_inside}
+use Rattle.condition.proofs.Start.{nils}
 use Rattle.slots.proofs.Swept.{place_in, slot_eq, place_eq}
 
 module _ {q k w l : ℕ} (s : Shaped q k w l) (h : 1 < q) (work : List ℕ) (B : Started w l work) where
@@ -29,8 +30,8 @@ module _ {q k w l : ℕ} (s : Shaped q k w l) (h : 1 < q) (work : List ℕ) (B :
       let y = place_eq w (j' * slot w l) b s.some r' in
       n (y.1, omega arith))
 
-  pub kept_start : (leads : List ℕ) → ((j : ℕ) → j ≤ l → get_or leads j 0 ≡ 0) → Kept q h k w l [] leads work
-  kept_start leads z = record {
+  pub kept_start : Kept q h k w l [] nils work
+  kept_start = record {
     basis = basis_same F L S
         (start F L S (view q h k w l work) (λ j u. omega (arith, (row_inside k w l j s.fits u).0)) (λ j v. ap (elt q h) (B.one j (omega (arith, v.column))))
         (λ j i t v x n. ap (elt q h) (none_at j t i v.column x.column (omega (arith, x.inside)) n))) z (λ j v i t x. refl);
@@ -41,6 +42,9 @@ module _ {q k w l : ℕ} (s : Shaped q k w l) (h : 1 < q) (work : List ℕ) (B :
     clear = λ j t i u v b c. none_at j t i u v b (λ n. let f = (row_inside k w l j s.fits u).0 in let g = ap (λ (t : ℕ). t * (k - 1)) n.1 in omega arith);
   }
     where
+      z : (j : ℕ) → j ≤ l → get_or nils j 0 ≡ 0
+      z j u = get_or-replicate 25 j 0 0 (omega (arith, s.few))
+
       F : Ops
       F = field q h
 

@@ -1,11 +1,11 @@
 -- After all conditions, of which there are fewer than terms, the alive curve of the least leading term is the chosen one.
-use mathlib.Core.Path.{◌≡◌, sym, ap, subst, ◌∙◌}
-use mathlib.Core.Logic.{⊎_elim}
+use mathlib.Core.Path.{◌≡◌, refl, sym, ap, subst, ◌∙◌}
 use mathlib.Core.List.{List, map}
 use Prim.Native.Nat.{ℕ, ◌+◌, ◌-◌, ◌*◌, ◌<◌, ◌≤◌}
 use native.Mathlib.Omega.{arith}
 use lib.Dec.{T}
-use lib.ListN.{length, get_or, length-map, get_or-map}
+use lib.ListN.{length, get_or, length-map, get_or-map, replicate, get_or-replicate}
+use Rattle.std.specs.Prelude.{Option, None, Some, MatchOption, IsSome}
 use Rattle.rules.specs.Lists.{below, sum}
 use Rattle.rules.specs.Field.{Ops, ops}
 use Rattle.rules.specs.Laws.{Laws}
@@ -28,22 +28,29 @@ use Rattle.demands.proofs.Link.{elt_hom}
 use Rattle.runs.proofs.Places.{under_of}
 use Rattle.weights.specs.Shape.{Shaped}
 use Rattle.slots.specs.Slot.{slot, place, curve_at}
-use Rattle.condition.specs.Kept.{First, Picked, Kept}
+use Rattle.condition.specs.Kept.{First, Quiet, Kept}
 use Rattle.finder.specs.Found.{Found}
 use Rattle.slots.proofs.Swept.{place_in}
 
+-- a value that is not zero for each of the 25 curves that there are at most
+abbrev pub ones : List ℕ
+ones = replicate 25 1
+
 module _ {q k w l : ℕ} (s : Shaped q k w l) (zs : List (Triple ℕ)) (few : length (conditions zs) < sum (λ t. w - t * (k - 1)) (below (l + 1)))
-    {leads work : List ℕ} (K : (h : 1 < q) → Kept q h k w l (conditions (map (move (elt q h)) zs)) leads work)
-    (ones : List ℕ) (one : (j : ℕ) → j ≤ l → get_or ones j 0 ≡ 1) {p : ℕ} (P : Picked k w l leads ones p) where
+    {leads work : List ℕ} (K : (h : 1 < q) → Kept q h k w l (conditions (map (move (elt q h)) zs)) leads work) where
+  one : (j : ℕ) → j ≤ l → get_or ones j 0 ≡ 1
+  one j u = get_or-replicate 25 j 1 0 (omega (arith, s.few))
+
   abbrev S : Space
   S = space k w l
 
   two : 1 < q
   two = modulus_two q s.field
 
-  -- one curve is alive
-  pub first : First k w l leads ones p
-  first = ⊎_elim (λ x. absurd (let a = alive in omega (arith, x.1 a.0 a.1, one a.0 a.1.column))) (λ x. x) P
+  -- one curve is alive, and so one is picked
+  pub picked : (o : Option ℕ) → MatchOption o (Quiet k w l leads ones) (First k w l leads ones) → IsSome o
+  picked (Some p) P = refl
+  picked None Q = absurd (let a = alive in omega (arith, Q a.0 a.1, one a.0 a.1.column))
     where
       same : length (conditions (map (move (elt q two)) zs)) ≡ length (conditions zs)
       same = ap length (sym (conditions_hom (elt q two) zs)) ∙ length-map (conditions zs) _
@@ -51,10 +58,10 @@ module _ {q k w l : ℕ} (s : Shaped q k w l) (zs : List (Triple ℕ)) (few : le
       alive : (j : ℕ) × In S (get_or leads j 0) j
       alive = end (field q two) (laws q s.field two) S (K two).basis (omega (arith, same))
 
-  best : Best S (λ j. get_or leads j 0) p
-  best = record { alive = first.alive; least = λ i v. first.least i v (λ z. omega (arith, one i v.column)) }
+  module _ {p : ℕ} (first : First k w l leads ones p) (room : (l + 1) * slot w l ≤ length work) where
+    best : Best S (λ j. get_or leads j 0) p
+    best = record { alive = first.alive; least = λ i v. first.least i v (λ z. omega (arith, one i v.column)) }
 
-  module _ (room : (l + 1) * slot w l ≤ length work) where
     abbrev Q : List ℕ
     Q = curve_at w l work p
 

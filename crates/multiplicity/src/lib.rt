@@ -1,81 +1,36 @@
 // Whether a curve has a multiplicity at a point and a symbol: whether it meets the conditions of one triple.
 #![tactic(auto)]
 
-ghost use Rattle.std.specs.Prelude.{◌≡◌, ◌+◌, ◌*◌, ◌≤◌, length};
-ghost use Rattle.weights.specs.Shape.{Shaped};
+ghost use Rattle.std.specs.Prelude.{◌≡◌, ◌+◌, ◌≤◌, length};
 ghost use Rattle.multiplicity.specs.Met.{zero_with, zero_below, met};
 
-use weights::{WIDE, value, weigh_all};
+use weights::{Curve, TABLE, row, value, weigh_all};
 
 // Whether the conditions hold that have the weights x and one of the first n rows of ys.
-fn holds_with(
-    q: u16,
-    k: usize,
-    w: usize,
-    l: usize,
-    n: usize,
-    x: &[u16],
-    ys: &[u16],
-    curve: &[u16],
-) -> bool
-    requires { Shaped q k w l × (n ≤ 4) × (length x.now ≡ w) × (length ys.now ≡ 1024) × (length curve.now ≡ (l + 1) * w) }
-    ensures { result ≡ zero_with q k w l n x.now ys.now curve.now }
+fn holds_with(curve: Curve<'_>, n: usize, x: &[u16], ys: &[u16; TABLE]) -> bool
+    requires { (n ≤ 4) × (length x.now ≡ curve.shape.w) }
+    ensures { result ≡ zero_with curve.entry.shape.field.q curve.entry.shape.k curve.entry.shape.w curve.entry.shape.l n x.now ys.now curve.entry.numbers.now }
 {
-    let mut b: usize = 0;
-    while b < n {
-        let s = b * WIDE;
-        let e = s + (l + 1);
-        if value(q, k, w, l, x, &ys[s..e], curve) != 0 {
-            return false;
-        }
-        b += 1;
-    }
-    true
+    (0..n).all(|b| value(curve, x, row(b, curve.shape.l + 1, ys)) == 0)
 }
 
 // Whether the conditions of multiplicity m hold, with the rows of weights at a point and at a symbol.
-fn holds(
-    q: u16,
-    k: usize,
-    w: usize,
-    l: usize,
-    m: usize,
-    xs: &[u16],
-    ys: &[u16],
-    curve: &[u16],
-) -> bool
-    requires { Shaped q k w l × (m ≤ 4) × (length xs.now ≡ 1024) × (length ys.now ≡ 1024) × (length curve.now ≡ (l + 1) * w) }
-    ensures { result ≡ zero_below q k w l m xs.now ys.now curve.now }
+fn holds(curve: Curve<'_>, m: usize, xs: &[u16; TABLE], ys: &[u16; TABLE]) -> bool
+    requires { m ≤ 4 }
+    ensures { result ≡ zero_below curve.entry.shape.field.q curve.entry.shape.k curve.entry.shape.w curve.entry.shape.l m xs.now ys.now curve.entry.numbers.now }
 {
-    let mut a: usize = 0;
-    while a < m {
-        let s = a * WIDE;
-        let e = s + w;
-        if !holds_with(q, k, w, l, m - a, &xs[s..e], ys, curve) {
-            return false;
-        }
-        a += 1;
-    }
-    true
+    (0..m).all(|a| holds_with(curve, m - a, row(a, curve.shape.w, xs), ys))
 }
 
 // Whether the curve meets the conditions of a triple. Its weights are made once.
-pub fn through(
-    q: u16,
-    k: usize,
-    w: usize,
-    l: usize,
-    alpha: u16,
-    symbol: u16,
-    m: usize,
-    curve: &[u16],
-) -> bool
-    requires { Shaped q k w l × (m ≤ 4) × (length curve.now ≡ (l + 1) * w) }
-    ensures { result ≡ met q k w l curve.now (record { point = alpha; symbol = symbol; times = m }) }
+pub fn through(curve: Curve<'_>, alpha: u16, symbol: u16, m: usize) -> bool
+    requires { m ≤ 4 }
+    ensures { result ≡ met curve.entry.shape.field.q curve.entry.shape.k curve.entry.shape.w curve.entry.shape.l curve.entry.numbers.now (record { point = alpha; symbol = symbol; times = m }) }
 {
-    let mut xs = [0u16; 1024];
-    let mut ys = [0u16; 1024];
-    weigh_all(q, alpha, m, w, &mut xs);
-    weigh_all(q, symbol, m, l + 1, &mut ys);
-    holds(q, k, w, l, m, &xs, &ys, curve)
+    let shape = curve.shape;
+    let mut xs = [0u16; TABLE];
+    let mut ys = [0u16; TABLE];
+    weigh_all(shape.field, alpha, m, shape.w, &mut xs);
+    weigh_all(shape.field, symbol, m, shape.l + 1, &mut ys);
+    holds(curve, m, &xs, &ys)
 }

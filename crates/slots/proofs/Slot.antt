@@ -3,7 +3,6 @@ use mathlib.Core.Path.{◌≡◌, refl, ap, ap₂, ◌∙◌}
 use mathlib.Core.Logic.{⊎_elim, by_cases}
 use mathlib.Core.List.{List}
 use Prim.Native.Nat.{ℕ, zero, suc, ◌+◌, ◌-◌, ◌*◌, ◌<◌, ◌≤◌}
-use native.Mathlib.Nat.{mul-le-mul}
 use native.Mathlib.Decide.{ℕ_discrete}
 use native.Mathlib.Omega.{arith}
 use lib.ListN.{get_or}
@@ -13,14 +12,7 @@ use Rattle.buffers.specs.Change.{Changed}
 use Rattle.buffers.proofs.Change.{lt_or_ge}
 use Rattle.buffers.proofs.Rows.{row_fits}
 use Rattle.within.specs.Runs.{RunsApart, added, moved, shifted}
-use Rattle.weights.specs.Shape.{Shaped}
 use Rattle.slots.specs.Slot.{slot, place, mixed_at, raised_at, Treated}
-
-pub slot_small : {q k w l : ℕ} → Shaped q k w l → slot w l ≤ 25 * 256
-slot_small s = mul-le-mul {n₂ = 25} {m₂ = 256} (omega (arith, s.few)) s.narrow
-
-pub treated_none : (f : ℕ → ℕ → ℕ) (at k w : ℕ) (d : List ℕ) → Treated f at k w 0 d d
-treated_none f at k w d = record { len = refl; new = λ t i l. absurd (omega arith); keep = λ m h. refl }
 
 module _ {f : ℕ → ℕ → ℕ} {at k w n : ℕ} {d e : List ℕ} (h : Treated f at k w n d e) where
   -- a place that no earlier row has is still the old
@@ -34,13 +26,12 @@ module _ {f : ℕ → ℕ → ℕ} {at k w n : ℕ} {d e : List ℕ} (h : Treate
       ⊎_elim (λ x. omega arith) (λ x. omega arith) p)
 
   -- one more row
-  pub treated_more : {g : ℕ → ℕ} {a m : ℕ} {e' : List ℕ} → Changed g a m e e' → a ≡ at + n * w → m ≡ w - n * (k - 1) →
-      ((i : ℕ) → i + n * (k - 1) < w → g i ≡ f n i) →
+  pub treated_more : {g : ℕ → ℕ} {e' : List ℕ} → Changed g (at + n * w) (w - n * (k - 1)) e e' → ((i : ℕ) → i + n * (k - 1) < w → g i ≡ f n i) →
       Treated f at k w (n + 1) d e'
-  treated_more {g} {a} {m} {e'} C start count same = record {
+  treated_more {g} {e'} C same = record {
     len = C.len ∙ h.len;
     new = λ t i l v. by_cases (ℕ_discrete t n)
-        (λ z. rw z (let x : at + place w n i ≡ a + i = omega arith in let v' : i + n * (k - 1) < w = rw z at v in
+        (λ z. rw z (let x : at + place w n i ≡ at + n * w + i = omega arith in let v' : i + n * (k - 1) < w = rw z at v in
         ap (λ (x : ℕ). get_or e' x 0) x ∙ C.new i (omega arith) ∙ same i v'))
         (λ z. let y = digits_lt {q = t} {m = n} {r = i} {c = w} (omega arith) (omega arith) in C.low _ (omega arith) ∙ h.new t i (omega arith) v);
     keep = λ x u. aside x u ∙ h.keep x (λ t i l v. u t i (omega arith) v);
@@ -49,33 +40,32 @@ module _ {f : ℕ → ℕ → ℕ} {at k w n : ℕ} {d e : List ℕ} (h : Treate
       aside : (x : ℕ) → ((t i : ℕ) → t < n + 1 → i + t * (k - 1) < w → ¬ (x ≡ at + place w t i)) → get_or e' x 0 ≡ get_or e x 0
       aside x u =
           ⊎_elim (λ b. C.low x b)
-          (λ b. ⊎_elim (λ c. absurd (u n (x - a) (omega arith) (omega arith) (omega arith))) (λ c. C.high x (omega arith)) (lt_or_ge (x - a) m))
-          (lt_or_ge x a)
+          (λ b. ⊎_elim (λ c. absurd (u n (x - (at + n * w)) (omega arith) (omega arith) (omega arith))) (λ c. C.high x (omega arith))
+          (lt_or_ge (x - (at + n * w)) (w - n * (k - 1))))
+          (lt_or_ge x (at + n * w))
 
 -- a row of the curve from `to` on, plus c times that from `from` on
-pub reduce_more : (q c k w l from to n : ℕ) {row off : ℕ} {d e e' : List ℕ} → RunsApart from to (slot w l) → n ≤ l →
+pub reduce_more : (q c k w l from to n : ℕ) {d e e' : List ℕ} → RunsApart from to (slot w l) → n ≤ l →
     Treated (mixed_at q c w d from to) to k w n d e →
-    Changed (added q c e (from + row) (to + row)) (to + row) (w - off) e e' → row ≡ n * w → off ≡ n * (k - 1) →
+    Changed (added q c e (from + n * w) (to + n * w)) (to + n * w) (w - n * (k - 1)) e e' →
     Treated (mixed_at q c w d from to) to k w (n + 1) d e'
-reduce_more q c k w l from to n {row} {off} {d} {e} p u T C r o = treated_more T C (omega arith) (omega arith) λ i v.
-    let a : to + row + i ≡ to + place w n i = omega arith in
-    let b : from + row + i ≡ from + place w n i = omega arith in
+reduce_more q c k w l from to n {d} {e} p u T C = treated_more T C λ i v.
+    let a : to + n * w + i ≡ to + place w n i = omega arith in
+    let b : from + n * w + i ≡ from + place w n i = omega arith in
     ap₂ (λ (x y : ℕ). plus q x (times q c y)) (ap (λ (x : ℕ). get_or e x 0) a ∙ treated_next T i)
     (ap (λ (x : ℕ). get_or e x 0) b ∙ treated_away T u p i (omega arith))
 
 -- a row of the curve from `at` on, times x + c
-pub raise_more : (q c k w at n : ℕ) {row off : ℕ} {d e e' : List ℕ} → Treated (raised_at q c w d at) at k w n d e →
-    Changed (shifted q c e row row) row (w - off) e e' → row ≡ at + n * w → off ≡ n * (k - 1) → Treated (raised_at q c w d at) at k w (n + 1) d e'
+pub raise_more : (q c k w at n : ℕ) {d e e' : List ℕ} → Treated (raised_at q c w d at) at k w n d e →
+    Changed (shifted q c e (at + n * w) (at + n * w)) (at + n * w) (w - n * (k - 1)) e e' → Treated (raised_at q c w d at) at k w (n + 1) d e'
 unfolding moved
-raise_more q c k w at n {row} {off} {d} {e} T C r o =
-    treated_more T C (omega arith) (omega arith) λ i v. ap₂ (λ (x y : ℕ). plus q x (times q c y)) (last i) (here i)
+raise_more q c k w at n {d} {e} T C = treated_more T C λ i v. ap₂ (λ (x y : ℕ). plus q x (times q c y)) (last i) (here i)
   where
-    here : (i : ℕ) → get_or e (row + i) 0 ≡ get_or d (at + n * w + i) 0
+    here : (i : ℕ) → get_or e (at + n * w + i) 0 ≡ get_or d (at + n * w + i) 0
     here i =
-        let a : row + i ≡ at + place w n i = omega arith in
-        let b : at + place w n i ≡ at + n * w + i = omega arith in
-        ap (λ (x : ℕ). get_or e x 0) a ∙ treated_next T i ∙ ap (λ (x : ℕ). get_or d x 0) b
+        let a : at + n * w + i ≡ at + place w n i = omega arith in
+        rw a (treated_next T i)
 
-    last : (i : ℕ) → moved e row i ≡ moved d (at + n * w) i
+    last : (i : ℕ) → moved e (at + n * w) i ≡ moved d (at + n * w) i
     last zero = refl
     last (suc i) = here i

@@ -1,15 +1,13 @@
 -- How the curves are swept one after the other: what is done to a slot leaves the others, and so the curve that is taken off.
-use mathlib.Core.Path.{◌≡◌, refl, ap, ap₂, ◌∙◌}
+use mathlib.Core.Path.{◌≡◌, ap, ap₂, ◌∙◌}
 use mathlib.Core.Logic.{⊎_elim, by_cases, inl, inr}
 use mathlib.Core.List.{List}
 use Prim.Native.Nat.{ℕ, ◌+◌, ◌-◌, ◌*◌, ◌<◌}
 use native.Mathlib.Decide.{ℕ_discrete}
 use native.Mathlib.Omega.{arith}
-use lib.Dec.{T}
 use lib.ListN.{get_or}
-use Rattle.rules.specs.Field.{plus, minus, times, modulus}
+use Rattle.rules.specs.Field.{plus, times}
 use Rattle.algebra.proofs.Rank.{digit_eq}
-use Rattle.prime.proofs.Below.{times_below, plus_from_zero}
 use Rattle.buffers.proofs.Change.{lt_or_ge}
 use Rattle.buffers.proofs.Rows.{row_fits}
 use Rattle.within.specs.Runs.{RunsApart}
@@ -30,14 +28,7 @@ slot_eq w l {j} {j'} {t} {t'} {i} {i'} a b c d e = (digit_eq (slot w l) j (place
 pub place_eq : (w at : ℕ) {t t' i i' : ℕ} → i < w → i' < w → at + place w t i ≡ at + place w t' i' → (t ≡ t') × (i ≡ i')
 place_eq w at {t} {t'} {i} {i'} a b e = digit_eq w t i t' i' a b (omega arith)
 
--- the ratio, where minus `over` is at hand
-pub ratio_is : (q over v : ℕ) {less : ℕ} → T (modulus q) → less ≡ minus q 0 over → plus q 0 (times q v less) ≡ ratio q over v
-ratio_is q over v m e = plus_from_zero q _ (times_below q m v _) ∙ ap (times q v) e
-
 module _ (q k w l p over : ℕ) (values d : List ℕ) where
-  pub swept_none : Swept q k w l p over values 0 d d
-  swept_none = record { len = refl; new = λ j t i u. absurd (omega arith); keep = λ m h. refl }
-
   module _ {n : ℕ} {e : List ℕ} (S : Swept q k w l p over values n d e) where
     -- a curve whose value is zero stays
     pub swept_skip : get_or values n 0 ≡ 0 → Swept q k w l p over values (n + 1) d e

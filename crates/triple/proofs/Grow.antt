@@ -13,10 +13,9 @@ use Rattle.weights.specs.Weights.{Weights}
 use Rattle.condition.specs.Kept.{Row, Kept, Met}
 use Rattle.triple.specs.Grown.{Grown, triple}
 
--- a row of weights, as it is lent
-pub row_part : {q α m n : ℕ} {ws : List ℕ} (a : ℕ) → Weights q α m n ws → a < m → a < 4 → n ≤ 256 →
-    Row q α a n (take (a * 256 + n - a * 256) (drop (a * 256) ws))
-row_part {n = n} {ws = ws} a W u v b i c = at_mid (a * 256) (a * 256 + n - a * 256) ws (omega (arith, W.len)) i (omega arith) ∙ W.row a u i c
+-- a row of weights, as `row` gives it
+pub row_part : {q α m n : ℕ} {ws out : List ℕ} (a : ℕ) → out ≡ take n (drop (a * 256) ws) → Weights q α m n ws → a < m → a < 4 → n ≤ 256 → Row q α a n out
+row_part {n = n} {ws = ws} a e W u v b i c = rw e (at_mid (a * 256) n ws (omega (arith, W.len)) i c ∙ W.row a u i c)
 
 module _ (q k w l : ℕ) where
   pub grown_none : (more : 1 < q → List (Condition (Fin q))) (leads work : List ℕ) → ((h : 1 < q) → more h ≡ []) → Grown q k w l more leads leads work work

@@ -4,88 +4,57 @@
 ghost use Rattle.std.specs.Prelude.{map, ◌≡◌, ℕ, ◌+◌, ◌*◌, ◌<◌, ◌≤◌, length};
 ghost use Rattle.rules.specs.Lists.{below};
 ghost use Rattle.algebra.specs.Conditions.{condition, conditions_at};
-ghost use Rattle.weights.specs.Shape.{Shaped};
 ghost use Rattle.weights.specs.Weights.{Weights};
-ghost use Rattle.slots.specs.Slot.{slot};
-ghost use Rattle.condition.specs.Kept.{Fit, Row};
+ghost use Rattle.condition.specs.Kept.{Row};
 ghost use Rattle.triple.specs.Grown.{triple, Grown};
 
-use condition::condition;
-use weights::{WIDE, weigh_all};
+use condition::Basis;
+use weights::{row, weigh_all};
 
 // The conditions of the orders below n in x: xs has the weights for x of each order, y those for y of one.
-fn along(
-    q: u16,
-    k: usize,
-    w: usize,
-    l: usize,
-    alpha: u16,
-    n: usize,
-    xs: &[u16],
-    y: &[u16],
-    leads: &mut [usize],
-    work: &mut [u16],
-)
-    requires { Shaped q k w l × (n ≤ 4) × (length xs.now ≡ 1024) × (length y.now ≡ l + 1) × (l < length leads.old) × Fit k w l leads.old
-        × ((l + 1) * slot w l ≤ length work.old) }
-    ensures { Fit k w l leads.new × ((r b m : ℕ) → Weights q alpha n w xs.now → Row q r b (l + 1) y.now →
-        Grown q k w l (λ h. map (condition (triple q h alpha r m) b) (below n)) leads.old leads.new work.old work.new) }
+fn along(basis: &mut Basis<'_>, alpha: u16, n: usize, xs: &[u16; 1024], y: &[u16])
+    requires { (n ≤ 4) × (length y.now ≡ basis.old.shape.l + 1) }
+    ensures same { basis.new.shape ≡ basis.old.shape }
+    ensures lent { basis.new.work.ghost_name ≡ basis.old.work.ghost_name }
+    ensures grown { (r b m : ℕ) → Weights basis.old.shape.field.q alpha n basis.old.shape.w xs.now
+        → Row basis.old.shape.field.q r b (basis.old.shape.l + 1) y.now
+        → Grown basis.old.shape.field.q basis.old.shape.k basis.old.shape.w basis.old.shape.l
+        (λ g. map (condition (triple basis.old.shape.field.q g alpha r m) b) (below n)) basis.old.leads basis.new.leads basis.old.work.now basis.new.work.now }
 {
-    let mut a: usize = 0;
-    while a < n {
-        let s = a * WIDE;
-        let e = s + w;
-        condition(q, k, w, l, alpha, &xs[s..e], y, leads, work);
-        a += 1;
+    let shape = basis.shape;
+    for a in 0..n {
+        basis.condition(alpha, row(a, shape.w, xs), y);
     }
 }
 
 // The conditions of a triple, of which xs and ys have the weights.
-fn by_weights(
-    q: u16,
-    k: usize,
-    w: usize,
-    l: usize,
-    alpha: u16,
-    m: usize,
-    xs: &[u16],
-    ys: &[u16],
-    leads: &mut [usize],
-    work: &mut [u16],
-)
-    requires { Shaped q k w l × (m ≤ 4) × (length xs.now ≡ 1024) × (length ys.now ≡ 1024) × (l < length leads.old) × Fit k w l leads.old
-        × ((l + 1) * slot w l ≤ length work.old) }
-    ensures { Fit k w l leads.new × ((r : ℕ) → Weights q alpha m w xs.now → Weights q r m (l + 1) ys.now →
-        Grown q k w l (λ h. conditions_at (triple q h alpha r m)) leads.old leads.new work.old work.new) }
+fn by_weights(basis: &mut Basis<'_>, alpha: u16, m: usize, xs: &[u16; 1024], ys: &[u16; 1024])
+    requires { m ≤ 4 }
+    ensures same { basis.new.shape ≡ basis.old.shape }
+    ensures lent { basis.new.work.ghost_name ≡ basis.old.work.ghost_name }
+    ensures grown { (r : ℕ) → Weights basis.old.shape.field.q alpha m basis.old.shape.w xs.now
+        → Weights basis.old.shape.field.q r m (basis.old.shape.l + 1) ys.now
+        → Grown basis.old.shape.field.q basis.old.shape.k basis.old.shape.w basis.old.shape.l
+        (λ g. conditions_at (triple basis.old.shape.field.q g alpha r m)) basis.old.leads basis.new.leads basis.old.work.now basis.new.work.now }
 {
-    let mut b: usize = 0;
-    while b < m {
-        let s = b * WIDE;
-        let e = s + (l + 1);
-        along(q, k, w, l, alpha, m - b, xs, &ys[s..e], leads, work);
-        b += 1;
+    let shape = basis.shape;
+    for b in 0..m {
+        along(basis, alpha, m - b, xs, row(b, shape.l + 1, ys));
     }
 }
 
 // The conditions of a triple. Its weights are made once.
-pub fn meet(
-    q: u16,
-    k: usize,
-    w: usize,
-    l: usize,
-    alpha: u16,
-    symbol: u16,
-    m: usize,
-    leads: &mut [usize],
-    work: &mut [u16],
-)
-    requires { Shaped q k w l × (m ≤ 4) × (l < length leads.old) × Fit k w l leads.old × ((l + 1) * slot w l ≤ length work.old) }
-    ensures { Fit k w l leads.new × Grown q k w l (λ h. conditions_at (triple q h alpha symbol m)) leads.old
-        leads.new work.old work.new }
+pub fn meet(basis: &mut Basis<'_>, alpha: u16, symbol: u16, m: usize)
+    requires { m ≤ 4 }
+    ensures same { basis.new.shape ≡ basis.old.shape }
+    ensures lent { basis.new.work.ghost_name ≡ basis.old.work.ghost_name }
+    ensures grown { Grown basis.old.shape.field.q basis.old.shape.k basis.old.shape.w basis.old.shape.l
+        (λ g. conditions_at (triple basis.old.shape.field.q g alpha symbol m)) basis.old.leads basis.new.leads basis.old.work.now basis.new.work.now }
 {
-    let mut xs = [0u16; 1024];
-    let mut ys = [0u16; 1024];
-    weigh_all(q, alpha, m, w, &mut xs);
-    weigh_all(q, symbol, m, l + 1, &mut ys);
-    by_weights(q, k, w, l, alpha, m, &xs, &ys, leads, work);
+    let shape = basis.shape;
+    let mut xs = [0; 1024];
+    let mut ys = [0; 1024];
+    weigh_all(shape.field, alpha, m, shape.w, &mut xs);
+    weigh_all(shape.field, symbol, m, shape.l + 1, &mut ys);
+    by_weights(basis, alpha, m, &xs, &ys);
 }

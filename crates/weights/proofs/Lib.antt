@@ -1,4 +1,5 @@
 -- The lemmas of the crate, each file after those that it rests on.
 pub mod Weights
 pub mod Pairing
-pub mod Triples
+pub mod Tripled
+pub mod Turns

@@ -3,16 +3,17 @@ use mathlib.Core.Path.{◌≡◌, refl, ◌∙◌, ap, ap₂}
 use mathlib.Core.List.{List}
 use Prim.Native.Nat.{ℕ, zero, suc, ◌+◌, ◌-◌, ◌*◌, ◌<◌, ◌≤◌}
 use native.Mathlib.Omega.{arith}
-use native.Mathlib.Nat.{mul-le-mul_right, sub-zero, zero-add, add-sub_cancel_left}
+use native.Mathlib.Nat.{mul-le-mul_right, add-sub_cancel_left}
 use native.Mathlib.Numerals.{add-one}
-use lib.ListN.{length, get_or}
+use lib.ListN.{length, get_or, take}
+use lib.Seq.{get_or-take, length-take-le}
 use borrow.Rule.Slice.PartMut.{mid_of}
 use Rattle.rules.specs.Field.{Ops, ops, plus, times}
 use Rattle.rules.specs.Curve.{total, coefficient}
 use Rattle.algebra.specs.Conditions.{Condition, weight}
 use Rattle.algebra.specs.Space.{space, value}
 use Rattle.runs.specs.Runs.{products}
-use Rattle.buffers.proofs.Part.{len_mid, at_mid}
+use Rattle.buffers.proofs.Part.{at_mid}
 use Rattle.buffers.proofs.Rows.{row_fits}
 use Rattle.weights.specs.Value.{share, pairing}
 
@@ -22,17 +23,9 @@ unfolding total
 total_same O zero f g h = refl
 total_same O (suc n) f g h = ap₂ O.add (total_same O n f g (λ i l. h i (omega arith))) (h n (omega arith))
 
--- a part that is lent from s to s + n has n numbers
-pub part_of : {A : Type 0} (f : List ℕ → A) (s n : ℕ) (ys : List ℕ) → f (mid_of s (s + n - s) ys) ≡ f (mid_of s n ys)
-part_of f s n ys = ap (λ (m : ℕ). f (mid_of s m ys)) (add-sub_cancel_left s n)
-
 -- row t lies in the curve, and a part of it in the space
 pub row_inside : (k w l t : ℕ) → l * (k - 1) < w → t ≤ l → (t * (k - 1) < w) × (t * w + w ≤ (l + 1) * w)
 row_inside k w l t s h = (omega (arith, mul-le-mul_right (k - 1) h), row_fits w (omega arith))
-
--- the two parts that a dot product is taken of are equally long
-pub parts_long : (n at : ℕ) (x c : List ℕ) → n ≤ length x → at + n ≤ length c → (length (mid_of 0 (n - 0) x) ≡ n) × (length (mid_of at (at + n - at) c) ≡ n)
-parts_long n at x c h g = (len_mid 0 (n - 0) x (omega arith) ∙ sub-zero n, len_mid at (at + n - at) c (omega arith) ∙ add-sub_cancel_left at n)
 
 -- the sum over the first t rows, by the dot product of row t, grows by its share
 module _ (q k w : ℕ) (x y c : List ℕ) where
@@ -41,19 +34,20 @@ module _ (q k w : ℕ) (x y c : List ℕ) where
   pairing_none = refl
 
   dot_share : (n at : ℕ) → n ≤ length x → at + n ≤ length c →
-      total (ops q) (length (mid_of 0 (n - 0) x)) (products q (mid_of 0 (n - 0) x) (mid_of at (at + n - at) c))
+      total (ops q) (length (take n x)) (products q (take n x) (mid_of at (at + n - at) c))
       ≡ total (ops q) n (λ i. times q (get_or x i 0) (get_or c (at + i) 0))
   dot_share n at h g =
-      rw (sub-zero, add-sub_cancel_left) (ap (λ m. total (ops q) m (products q (mid_of 0 n x) (mid_of at n c))) (len_mid 0 n x (omega arith))
-      ∙ total_same (ops q) n _ _ (λ i l. ap₂ (times q) (at_mid 0 n x (omega arith) i l ∙ ap (λ (j : ℕ). get_or x j 0) (zero-add i)) (at_mid at n c g i l)))
+      rw add-sub_cancel_left (ap (λ m. total (ops q) m (products q (take n x) (mid_of at n c))) (length-take-le n x h)
+      ∙ total_same (ops q) n _ _ (λ i l. ap₂ (times q) (get_or-take n x i 0 l) (at_mid at n c g i l)))
 
-  pub pairing_more : (t : ℕ) {at off sum part : ℕ} → at ≡ t * w → off ≡ t * (k - 1) → w - off ≤ length x → at + (w - off) ≤ length c →
+  pub pairing_more : (t : ℕ) {n sum part : ℕ} → n ≡ w - t * (k - 1) → n ≤ length x → t * w + n ≤ length c →
       sum ≡ total (ops q) t (share q k w x y c) →
-      part ≡ total (ops q) (length (mid_of 0 (w - off - 0) x)) (products q (mid_of 0 (w - off - 0) x) (mid_of at (at + (w - off) - at) c)) →
+      part ≡ total (ops q) (length (take n x)) (products q (take n x) (mid_of (t * w) (t * w + n - t * w) c)) →
       plus q sum (times q (get_or y t 0) part) ≡ total (ops q) (t + 1) (share q k w x y c)
   unfolding total
-  pairing_more t {at} {off} {sum} {part} a o h g s d = rw add-one (ap₂ (λ u v. plus q u (times q (get_or y t 0) v)) s
-      (d ∙ dot_share (w - off) at h g ∙ ap₂ (λ (a o : ℕ). total (ops q) (w - o) (λ i. times q (get_or x i 0) (get_or c (a + i) 0))) a o))
+  pairing_more t {n} e h g s d =
+      rw add-one (ap₂ (λ u v. plus q u (times q (get_or y t 0) v)) s
+      (d ∙ dot_share n (t * w) h g ∙ ap (λ m. total (ops q) m (λ i. times q (get_or x i 0) (get_or c (t * w + i) 0))) e))
 
   pub pairing_all : (t l : ℕ) → t ≡ l + 1 → total (ops q) t (share q k w x y c) ≡ pairing q k w l x y c
   unfolding pairing

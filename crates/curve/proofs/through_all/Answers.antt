@@ -1,20 +1,25 @@
--- through_all: the goals that the search leaves, by the lemmas of Tests and Triples.
-use native.Mathlib.Omega.{arith}
-use Rattle.rules.proofs.Tests.{test_true, test_false}
+-- through_all: the test of each triple, by the lemmas of Zipped.
+use mathlib.Core.Path.{◌∙◌}
+use Rattle.std.proofs.Common.{rules, tests}
+use Rattle.std.proofs.lemmas.Iterator.Adapters.{serves_from_places}
+use Rattle.std.proofs.lemmas.Iterator.Search.{all_from_yields_List}
 use Rattle.multiplicity.specs.Met.{met}
-use Rattle.multiplicity.proofs.Tests.{said_no}
-use Rattle.weights.proofs.Triples.{tripled_of, tripled_at}
+use Rattle.weights.proofs.Turns.{zipped_yields}
+use Rattle.curve.proofs.Zipped.{triple_of, zipped_all, zipped_few}
 use Rattle.curve.proofs.through_all.Goals as goal
 
-pub returns-then-not-through : goal.returns-then-not-through
-returns-then-not-through c =
-    let x = c.args in
-    test_false _ (λ t. said_no _ _ c.if-not-through.true c.through.ensures
-    (tripled_at (met x.q x.k x.w x.l x.curve.now) x.points.now x.word.now x.times.now c.loop-j.j
-    c.requires.symbols c.requires.multiplicities (omega arith) t))
+pub all-requires-clause-callable : goal.all-requires-clause-callable
+all-requires-clause-callable c =
+    let z = c.args.triples in
+    serves_from_places (zipped_yields z.points.now z.word.now z.times.now (cc) (cc) (cc)) (λ x q k. search rules)
+    (λ x k l e. let m = zipped_few z.points.now z.word.now z.times.now z.few _ k l e in search rules)
 
 pub returns : goal.returns
 returns c =
-    let x = c.args in
-    test_true _ (tripled_of (met x.q x.k x.w x.l x.curve.now) x.points.now x.word.now x.times.now
-    (λ i l. c.loop-j.invariant.1 i (omega arith)))
+    let z = c.args.triples in
+    let curve = c.args.curve in
+    let shape = curve.shape in
+    let test = met shape.field.q shape.k shape.w shape.l curve.numbers.now in
+    all_from_yields_List (λ p. test (triple_of p)) c.all.new.self _ _ c.all.ensures.ran
+    (zipped_yields z.points.now z.word.now z.times.now (cc) (cc) (cc)) (λ x b q k. search (rules, tests))
+    ∙ zipped_all test z.points.now z.word.now z.times.now

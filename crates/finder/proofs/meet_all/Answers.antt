@@ -1,33 +1,32 @@
--- meet_all: the goals that the search leaves, by the lemmas of Triples.
-use mathlib.Core.Path.{◌∙◌}
+-- meet_all: the goals that the search leaves, by the lemmas of Turns and Triples.
+use mathlib.Core.Path.{refl, ◌∙◌}
+use lib.ListN.{length}
+use Rattle.std.proofs.lemmas.List.{length_push}
+use Rattle.weights.proofs.Turns.{turn, turns}
 use Rattle.finder.proofs.Triples.{triples_none, triples_more, triples_all}
 use native.Mathlib.Omega.{arith}
-use borrow.Author.Rules.{rules}
 use Rattle.finder.proofs.meet_all.Goals as goal
 
-pub loop-j-init : goal.loop-j-init
-loop-j-init c = (
-  search rules,
-  search rules,
-  search rules,
-  c.requires.5,
-  let a = c.args in
-      triples_none a.q a.k a.w a.l a.points.now a.word.now a.times.now _ _,
-)
+pub loop-point-init : goal.loop-point-init
+loop-point-init c = let h = c.args.basis.now.shape in (refl, refl, triples_none h.field.q h.k h.w h.l c.args.triples _ _)
 
-pub loop-j-preserved : goal.loop-j-preserved
-loop-j-preserved c =
-    let o = c.loop-j in
-    let p = c.requires in
-    let d = c.meet in (
-      search rules,
-      d.auto.leads ∙ o.invariant.1,
-      d.auto.work ∙ o.invariant.2,
-      d.ensures.0,
-      triples_more _ _ _ _ _ _ _ o.j p.1 p.2 (omega arith) o.invariant.4 d.ensures.1,
-    )
+pub meet-requires : goal.meet-requires
+meet-requires c =
+    let z = c.args.triples in
+    let o = c.loop-point in
+    let p = turn z c.into_iter-point-iterator.result _ c.next.new.self _ _ o.yielded_by c.next.ensures.steps (cc) (cc) (cc) _ c.in-Some.is in
+    omega (arith, c.from.ensures, p.3, z.few (length o.yielded) (omega (arith, z.multiplicities, p.0)))
+
+pub loop-point-preserved : goal.loop-point-preserved
+loop-point-preserved c =
+    let z = c.args.triples in
+    let o = c.loop-point in
+    let d = c.meet in
+    let p = turn z c.into_iter-point-iterator.result _ c.next.new.self _ _ o.yielded_by c.next.ensures.steps (cc) (cc) (cc) _ c.in-Some.is in
+    rw (length_push o.yielded _) (d.ensures.same ∙ o.invariant.0, d.ensures.lent ∙ o.invariant.1, triples_more _ _ _ _ z _ _ _ _ p.0 p.1 p.2 (c.from.ensures ∙ p.3) o.invariant.2 (rw o.invariant.0 at d.ensures.grown))
 
 pub returns : goal.returns
 returns c =
-    let p = c.requires in
-    let o = c.loop-j in (o.invariant.3, triples_all _ _ _ _ _ _ _ o.j p.1 p.2 (omega arith) o.invariant.4)
+    let o = c.loop-point in
+    let n = turns c.args.triples c.into_iter-point-iterator.result _ c.next.new.self _ _ o.yielded_by c.next.ensures.steps (cc) (cc) (cc) c.in-None.is in
+    record { same = o.invariant.0; lent = o.invariant.1; grown = triples_all _ _ _ _ c.args.triples (length o.yielded) (omega (arith, n)) o.invariant.2 }

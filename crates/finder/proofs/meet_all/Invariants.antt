@@ -1,20 +1,12 @@
--- meet_all: the conditions of the first j triples are met.
+-- meet_all: the conditions of as many triples are met as there were turns.
 use mathlib.Core.Path.{◌≡◌}
-use mathlib.Core.List.{map}
-use Prim.Native.Nat.{◌-◌, ◌≤◌}
-use lib.ListN.{length, take}
-use Rattle.algebra.specs.Hom.{move}
-use Rattle.algebra.specs.Conditions.{conditions}
-use Rattle.prime.specs.Field.{elt}
-use Rattle.weights.specs.Triples.{tripled}
-use Rattle.condition.specs.Kept.{Fit}
+use lib.ListN.{length}
 use Rattle.triple.specs.Grown.{Grown}
+use Rattle.finder.proofs.Triples.{met}
 use Rattle.finder.proofs.meet_all.Given as goal
 
-abbrev pub invariant-loop-j : goal.invariant-loop-j
-invariant-loop-j l =
-    (l.j ≤ length l.points) × (length l.leads ≡ length l.initial.leads) × (length l.work ≡ length l.initial.work) × Fit l.k l.w l.l l.leads ×
-    Grown l.q l.k l.w l.l (λ h. conditions (take l.j (map (move (elt l.q h)) (tripled l.points l.word l.times)))) l.initial.leads l.leads l.initial.work l.work
-
-abbrev pub decreases-loop-j : goal.decreases-loop-j
-decreases-loop-j l = length l.points - l.j
+abbrev pub invariant-loop-point : goal.invariant-loop-point
+invariant-loop-point l =
+    let h = l.initial.basis.shape in
+    (l.basis.shape ≡ h) × (l.basis.work.ghost_name ≡ l.initial.basis.work.ghost_name)
+    × Grown h.field.q h.k h.w h.l (met h.field.q l.triples (length l.yielded)) l.initial.basis.leads l.basis.leads l.initial.basis.work.now l.basis.work.now

@@ -1,22 +1,17 @@
--- holds: the goals that the search leaves, by the lemmas of Pairing and Tests.
-use mathlib.Core.Path.{◌∙◌}
-use Prim.Native.Nat.{◌-◌, ◌*◌}
-use native.Mathlib.Omega.{arith}
-use Rattle.multiplicity.specs.Met.{zero_with, zero_below}
-use Rattle.weights.proofs.Pairing.{part_of}
-use Rattle.multiplicity.proofs.Tests.{said_no, below_true, below_false}
+-- holds: the test of each order, by the lemmas of Tests.
+use mathlib.Core.Path.{refl, ◌∙◌}
+use Rattle.std.proofs.Common.{rules, tests, arith, ◌-◌}
+use Rattle.std.proofs.lemmas.Iterator.{YieldsList-from_range}
+use Rattle.std.proofs.lemmas.Iterator.Search.{all_from_yields_List}
+use Rattle.multiplicity.specs.Met.{line, zero_with, zero_below}
+use Rattle.multiplicity.proofs.Tests.{below_all}
 use Rattle.multiplicity.proofs.holds.Goals as goal
-
-pub returns-then-not-holds_with : goal.returns-then-not-holds_with
-unfolding zero_below
-returns-then-not-holds_with c =
-    let x = c.args in
-    let a = c.loop-a.a in
-    below_false _ x.m a (omega arith)
-    (said_no _ _ c.if-not-holds_with.true
-    (c.holds_with.ensures ∙ part_of (λ y. zero_with x.q x.k x.w x.l (x.m - a) y x.ys.now x.curve.now) (a * 256)
-    x.w x.xs.now))
 
 pub returns : goal.returns
 unfolding zero_below
-returns c = below_true _ c.args.m (λ j l. c.loop-a.invariant.1 j (omega arith))
+returns c =
+    let x = c.args in
+    let shape = x.curve.shape in
+    all_from_yields_List (λ a. zero_with shape.field.q shape.k shape.w shape.l (x.m - a) (line a shape.w x.xs.now) x.ys.now x.curve.numbers.now) _ _ _ c.all.ensures.ran
+    (YieldsList-from_range 0 x.m x.m refl (omega arith)) (λ x b q k. search (rules, tests))
+    ∙ below_all _ x.m

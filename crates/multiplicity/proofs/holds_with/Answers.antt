@@ -1,23 +1,19 @@
--- holds_with: the goals that the search leaves, by the lemmas of Pairing and Tests.
-use mathlib.Core.Path.{◌∙◌}
-use Prim.Native.Nat.{◌+◌, ◌*◌}
-use native.Mathlib.Omega.{arith}
-use lib.Dec.{eqb→eq}
+-- holds_with: the test of each order, by the lemmas of Tests.
+use mathlib.Core.Path.{refl, ◌∙◌}
+use lib.Dec.{eqb}
+use Rattle.std.proofs.Common.{rules, tests, arith, ◌+◌}
+use Rattle.std.proofs.lemmas.Iterator.{YieldsList-from_range}
+use Rattle.std.proofs.lemmas.Iterator.Search.{all_from_yields_List}
 use Rattle.weights.specs.Value.{pairing}
-use Rattle.multiplicity.specs.Met.{zero_with}
-use Rattle.weights.proofs.Pairing.{part_of}
-use Rattle.multiplicity.proofs.Tests.{below_true, below_false}
+use Rattle.multiplicity.specs.Met.{line, zero_with}
+use Rattle.multiplicity.proofs.Tests.{below_all}
 use Rattle.multiplicity.proofs.holds_with.Goals as goal
-
-pub returns-then-value-ne0 : goal.returns-then-value-ne0
-unfolding zero_with
-returns-then-value-ne0 c =
-    let x = c.args in
-    let b = c.loop-b.b in
-    below_false _ x.n b (omega arith)
-    (λ t. c.if-value-ne0.true (c.value.ensures
-    ∙ part_of (λ y. pairing x.q x.k x.w x.l x.x.now y x.curve.now) (b * 256) (x.l + 1) x.ys.now ∙ eqb→eq _ 0 t))
 
 pub returns : goal.returns
 unfolding zero_with
-returns c = below_true _ c.args.n (λ j l. c.loop-b.invariant.1 j (omega arith))
+returns c =
+    let x = c.args in
+    let shape = x.curve.shape in
+    all_from_yields_List (λ b. eqb (pairing shape.field.q shape.k shape.w shape.l x.x.now (line b (shape.l + 1) x.ys.now) x.curve.numbers.now) 0) _ _ _ c.all.ensures.ran
+    (YieldsList-from_range 0 x.n x.n refl (omega arith)) (λ x b q k. search (rules, tests))
+    ∙ below_all _ x.n

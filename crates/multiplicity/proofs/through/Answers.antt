@@ -7,6 +7,7 @@ use Rattle.multiplicity.proofs.through.Goals as goal
 pub returns : goal.returns
 returns c =
     let x = c.args in
+    let shape = x.curve.shape in
     c.holds.ensures
-    ∙ below_met x.q x.k x.w x.l x.curve.now (record { point = x.alpha; symbol = x.symbol; times = x.m }) _ _
-    c.requires.0.narrow (omega (arith, c.requires.0.few)) c.requires.1 c.weigh_all.ensures c.weigh_all-2.ensures
+    ∙ below_met shape.field.q shape.k shape.w shape.l x.curve.numbers.now (record { point = x.alpha; symbol = x.symbol; times = x.m }) _ _
+    shape.shaped.narrow (omega (arith, shape.shaped.few)) c.requires c.weigh_all.ensures c.weigh_all-2.ensures

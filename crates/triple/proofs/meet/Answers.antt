@@ -1,7 +1,5 @@
 -- meet: what is said of any weights holds of those made here.
 use Rattle.triple.proofs.meet.Goals as goal
 
-pub returns : goal.returns
-returns c =
-    let d = c.by_weights.ensures in
-    (d.0, d.1 c.args.symbol c.weigh_all.ensures c.weigh_all-2.ensures)
+pub returns-clause-grown : goal.returns-clause-grown
+returns-clause-grown c = c.by_weights.ensures.grown c.args.symbol c.weigh_all.ensures c.weigh_all-2.ensures
