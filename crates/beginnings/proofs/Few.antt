@@ -19,7 +19,7 @@ use Rattle.prime.specs.Field.{elt, field}
 use Rattle.prime.proofs.Below.{modulus_two}
 use Rattle.prime.proofs.Laws.{laws}
 use Rattle.demands.proofs.Link.{elt_hom}
-use Rattle.roots.specs.declared.Sizes.{Sizes}
+use Rattle.roots.specs.declared.sizes.Sizes.{Sizes}
 use Rattle.roots.specs.declared.Tally.{Tally}
 use Rattle.followers.specs.Slot.{run}
 use Rattle.lengthening.specs.Lengthened.{Live}
@@ -64,7 +64,7 @@ module _ (q : ℕ) (m : T (modulus q)) (w l : ℕ) (s : List ℕ) (low : (j : �
       rw (following_alive q (rows w (l + 1) s), alive_hom (ops q) F e (elt_hom q m h) 1 (rows w (l + 1) s), map_rows e w (l + 1) s)
       (alive_few F (laws q m h) 0 (rows w (l + 1) (map e s)) l (headed u))
 
-pub ready_few : {h : Sizes} {left a n : ℕ} {d b z : List ℕ} {t : Tally} {fs : List (List ℕ)} → 0 < left → SearchReady h left a d b z t fs n →
-    length (followers_at h.q h.w h.l a d) ≤ h.l
-ready_few {h} {left} {a} {n} {d} o r =
-    following_few h.q r.sized.field h.w h.l (run a (size h) d) (λ j k. rw (run_at a (size h) d j k) (r.low j k)) (r.live o)
+pub ready_few : {sizes : Sizes} {left a n : ℕ} {d b z : List ℕ} {t : Tally} {fs : List (List ℕ)} → 0 < left → SearchReady sizes left a d b z t fs n →
+    length (followers_at sizes.rows.field.q sizes.rows.w sizes.rows.l a d) ≤ sizes.rows.l
+ready_few {sizes} {left} {a} {n} {d} o r =
+    following_few sizes.rows.field.q sizes.rows.field.is_modulus sizes.rows.w sizes.rows.l (run a (size sizes) d) (λ j k. rw (run_at a (size sizes) d j k) (r.low j k)) (r.live o)

@@ -12,11 +12,12 @@ use lib.Seq.{get_or-set_other, get_or-take, ext_get_or, length-take-le, take-suc
 use Rattle.rules.specs.Field.{ops}
 use Rattle.rules.specs.Search.{rows, follows}
 use Rattle.algebra.specs.Search.{next, found, tried, Within}
+use Rattle.buffers.proofs.Change.{changed_front}
 use Rattle.buffers.proofs.Part.{len_mid}
-use Rattle.roots.specs.declared.Sizes.{Sizes}
+use Rattle.roots.specs.declared.sizes.Sizes.{Sizes}
 use Rattle.roots.specs.declared.Tally.{Tally}
 use Rattle.followers.specs.Slot.{run, SlotBelow, curve}
-use Rattle.followers.specs.Followers.{following, Written}
+use Rattle.followers.specs.Followers.{following, Written, Appended}
 use Rattle.lengthening.specs.Lengthened.{Lengthened}
 use Rattle.roots.specs.Ready.{size, found_at, tried_at, listed, SearchReady}
 use Rattle.beginnings.specs.Searched.{Searched}
@@ -31,22 +32,22 @@ peel zero s l = absurd (omega arith)
 peel (suc n) s l = rw (sub-one (suc n)) (suc-mul n s)
 
 -- the same list of messages and the same count, by other names
-pub searched_to : {h : Sizes} {left a n m : ℕ} {d b z d' b' z' : List ℕ} {t r : Tally} {fs gs : List (List ℕ)} →
-    Searched h left a d b z t fs n d' b' z' r → fs ≡ gs → n ≡ m → Searched h left a d b z t gs m d' b' z' r
-searched_to h e f = rw (e, f) at h
+pub searched_to : {sizes : Sizes} {left a n m : ℕ} {d b z d' b' z' : List ℕ} {t r : Tally} {fs gs : List (List ℕ)} →
+    Searched sizes left a d b z t fs n d' b' z' r → fs ≡ gs → n ≡ m → Searched sizes left a d b z t gs m d' b' z' r
+searched_to s e f = rw (e, f) at s
 
-module _ (h : Sizes) (left a : ℕ) (d b z : List ℕ) (t : Tally) where
+module _ (sizes : Sizes) (left a : ℕ) (d b z : List ℕ) (t : Tally) where
   abbrev pub q : ℕ
-  q = h.q
+  q = sizes.rows.field.q
 
   abbrev pub k : ℕ
-  k = h.k
+  k = sizes.k
 
   abbrev pub S : ℕ
-  S = size h
+  S = size sizes
 
   abbrev pub Q : List (List ℕ)
-  Q = curve h.w h.l a d
+  Q = curve sizes.rows.w sizes.rows.l a d
 
   -- the symbols that may follow
   abbrev pub ks : List ℕ
@@ -59,7 +60,7 @@ module _ (h : Sizes) (left a : ℕ) (d b z : List ℕ) (t : Tally) where
   ns i = passed q (left - 1) Q i
 
   abbrev pub Seen : ℕ → List ℕ → List ℕ → List ℕ → Tally → Type 0
-  Seen i d₁ b₁ z₁ all = Searched h left a d b z t (fs i) (ns i) d₁ b₁ z₁ all
+  Seen i d₁ b₁ z₁ all = Searched sizes left a d b z t (fs i) (ns i) d₁ b₁ z₁ all
 
   -- before the first symbol
   pub seen_none : Seen 0 d b z t
@@ -73,14 +74,14 @@ module _ (h : Sizes) (left a : ℕ) (d b z : List ℕ) (t : Tally) where
     placed = λ j l. refl;
   }
 
-  module _ (some : 0 < left) (ready : SearchReady h left a d b z t (found_at h left a d) (tried_at h left a d - 1)) (i : ℕ) (il : i < length ks)
+  module _ (some : 0 < left) (ready : SearchReady sizes left a d b z t (found_at sizes left a d) (tried_at sizes left a d - 1)) {i : ℕ} (il : i < length ks)
       {d₁ b₁ z₁ : List ℕ} {all : Tally} (seen : Seen i d₁ b₁ z₁ all) where
     pub room_after : a + S + S ≤ length d₁
     room_after = omega (arith, ready.slots, peel left S some, seen.slots)
 
     -- the curve still stands in its slot
-    pub same_curve : curve h.w h.l a d₁ ≡ Q
-    same_curve = ap (rows h.w (h.l + 1))
+    pub same_curve : curve sizes.rows.w sizes.rows.l a d₁ ≡ Q
+    same_curve = ap (rows sizes.rows.w (sizes.rows.l + 1))
         (ext_get_or 0 (run a S d₁) (run a S d) (len_mid a S d₁ (omega (arith, room_after)) ∙ sym (len_mid a S d (omega (arith, room_after, seen.slots)))) go)
       where
         go : (j : ℕ) → j < length (run a S d₁) → get_or (run a S d₁) j 0 ≡ get_or (run a S d) j 0
@@ -91,11 +92,11 @@ module _ (h : Sizes) (left a : ℕ) (d b z : List ℕ) (t : Tally) where
     pub same_low : SlotBelow q a S d₁
     same_low j l = rw (seen.kept (a + j) (omega (arith, ready.spare)) (omega arith)) (ready.low j l)
 
-    pub symbol : (g : ℕ) → g ≡ get_or ks i 0 → g < q
-    symbol g is = rw is (following_each q Q i il).1
+    pub symbol : {g : ℕ} → g ≡ get_or ks i 0 → g < q
+    symbol is = rw is (following_each q Q i il).1
 
     -- the i-th symbol that may follow
-    module _ (g : ℕ) (is : g ≡ get_or ks i 0) {d₂ : List ℕ} (nx : Lengthened q g h.w h.l a d₁ d₂) where
+    module _ {g : ℕ} (is : g ≡ get_or ks i 0) {d₂ : List ℕ} (nx : Lengthened q g sizes.rows.w sizes.rows.l a d₁ d₂) where
       abbrev place : ℕ
       place = k - left
 
@@ -105,14 +106,14 @@ module _ (h : Sizes) (left a : ℕ) (d b z : List ℕ) (t : Tally) where
       may : follows (ops q) Q g ≡ true
       may = rw is (following_each q Q i il).0
 
-      inside : Within (ops q) (left - 1) h.w (curve h.w h.l a d₁)
+      inside : Within (ops q) (left - 1) sizes.rows.w (curve sizes.rows.w sizes.rows.l a d₁)
       inside = rw same_curve ready.within
 
       abbrev found' : List (List ℕ)
-      found' = found_at h (left - 1) (a + S) d₂
+      found' = found_at sizes (left - 1) (a + S) d₂
 
       abbrev tried' : ℕ
-      tried' = tried_at h (left - 1) (a + S) d₂
+      tried' = tried_at sizes (left - 1) (a + S) d₂
 
       found_is : found' ≡ found (ops q) (left - 1) (next (ops q) g Q)
       found_is = nx.found (left - 1) inside ∙ ap (λ (P : List (List ℕ)). found (ops q) (left - 1) (next (ops q) g P)) same_curve
@@ -135,9 +136,8 @@ module _ (h : Sizes) (left a : ℕ) (d b z : List ℕ) (t : Tally) where
       few_tried : ns (i + 1) ≤ tried (ops q) left Q - 1
       few_tried = omega (arith, tried_passed q left Q some, passed_most q (left - 1) Q (i + 1))
 
-      pub enter : SearchReady h (left - 1) (a + S) d₂ b₂ z₁ all found' tried'
+      pub enter : SearchReady sizes (left - 1) (a + S) d₂ b₂ z₁ all found' tried'
       enter = record {
-        sized = ready.sized;
         placed = omega (arith, ready.placed);
         spare = omega arith;
         slots = omega (arith, ready.slots, peel left S some, seen.slots, nx.len);
@@ -176,7 +176,7 @@ module _ (h : Sizes) (left a : ℕ) (d b z : List ℕ) (t : Tally) where
           let n : length p + suc (left - 1) ≡ k = omega (arith, length-take-le place b (omega (arith, ready.beginning)), ready.placed) in
           walked_long q (left - 1) Q p i ∙ ap (λ (n : ℕ). length (fs i) * n) n
 
-      pub leave : {d₃ b₃ z₃ : List ℕ} {r : Tally} → Searched h (left - 1) (a + S) d₂ b₂ z₁ all found' tried' d₃ b₃ z₃ r → Seen (i + 1) d₃ b₃ z₃ r
+      pub leave : {d₃ b₃ z₃ : List ℕ} {r : Tally} → Searched sizes (left - 1) (a + S) d₂ b₂ z₁ all found' tried' d₃ b₃ z₃ r → Seen (i + 1) d₃ b₃ z₃ r
       leave v = record {
         found = omega (arith, v.found, seen.found, more_length);
         tried = omega (arith, v.tried, seen.tried, more_tried);
@@ -191,22 +191,28 @@ module _ (h : Sizes) (left a : ℕ) (d b z : List ℕ) (t : Tally) where
         placed = λ j l. v.placed j (omega (arith, ready.placed)) ∙ get_or-set_other b₁ place j g 0 (λ u. omega arith) ∙ seen.placed j l;
       }
 
+-- a symbol of those counted, in the buffer that they were written to
+pub symbol_at : {xs d e : List ℕ} {r n i : ℕ} → Appended xs 0 d e r → i < length (take n e) → n ≤ r → (i < length xs) × (get_or (take n e) i 0 ≡ get_or xs i 0)
+symbol_at {xs} {d} {e} {r} {n} {i} fo it le =
+    let l : i < n = omega (arith, length-take n e) in
+    let m : i < length xs = omega (arith, fo.count) in
+    (m, get_or-take n e i 0 l ∙ changed_front fo.list i m)
+
 -- with symbols left, the beginning visited is tried
-pub tried_some : (h : Sizes) (left a : ℕ) (d : List ℕ) → ¬ (left ≡ 0) → 0 < tried_at h left a d
-tried_some h left a d n = omega (arith, tried_passed h.q left (curve h.w h.l a d) (pos_of_ne-zero n))
+pub tried_some : (sizes : Sizes) (left a : ℕ) (d : List ℕ) → ¬ (left ≡ 0) → 0 < tried_at sizes left a d
+tried_some sizes left a d n = omega (arith, tried_passed sizes.rows.field.q left (curve sizes.rows.w sizes.rows.l a d) (pos_of_ne-zero n))
 
 -- with no symbol left, one beginning is tried
-pub ready_end : {h : Sizes} {left a : ℕ} {d b z : List ℕ} {t : Tally} → left ≡ 0 →
-    SearchReady h left a d b z t (found_at h left a d) (tried_at h left a d)
-    → SearchReady h 0 a d b z t (found_at h 0 a d) 1
+pub ready_end : {sizes : Sizes} {left a : ℕ} {d b z : List ℕ} {t : Tally} → left ≡ 0 →
+    SearchReady sizes left a d b z t (found_at sizes left a d) (tried_at sizes left a d)
+    → SearchReady sizes 0 a d b z t (found_at sizes 0 a d) 1
 unfolding tried
 ready_end e r = rw e at r
 
 -- the visit has counted one, the walk counts the rest
-pub ready_walk : {h : Sizes} {left a : ℕ} {d b z : List ℕ} {t : Tally} (fs : List (List ℕ)) (n : ℕ) → 0 < n → SearchReady h left a d b z t fs n →
-    SearchReady h left a d b z (record { found = t.found; tried = t.tried + 1 }) fs (n - 1)
-ready_walk fs n o r = record {
-  sized = r.sized;
+pub ready_walk : {sizes : Sizes} {left a : ℕ} {d b z : List ℕ} {t s : Tally} (fs : List (List ℕ)) (n : ℕ) → 0 < n → s ≡ record t { tried = t.tried + 1 } →
+    SearchReady sizes left a d b z t fs n → SearchReady sizes left a d b z s fs (n - 1)
+ready_walk fs n o e r = rw e record {
   placed = r.placed;
   spare = r.spare;
   slots = r.slots;
@@ -218,22 +224,23 @@ ready_walk fs n o r = record {
   count = omega (arith, r.count);
 }
 
-pub searched_end : {h : Sizes} {left a : ℕ} {d b z z' : List ℕ} {t r : Tally} → left ≡ 0 →
-    (r.found ≡ t.found + length (found_at h 0 a d)) × (r.tried ≡ t.tried + 1)
-    × Written (listed (take h.k b) (found_at h 0 a d)) (t.found * h.k) z z'
-    → Searched h left a d b z t (found_at h left a d) (tried_at h left a d) d b z' r
+pub searched_end : {sizes : Sizes} {left a : ℕ} {d b z z' : List ℕ} {t r : Tally} → left ≡ 0 →
+    (r.found ≡ t.found + length (found_at sizes 0 a d)) × (r.tried ≡ t.tried + 1)
+    × Written (listed (take sizes.k b) (found_at sizes 0 a d)) (t.found * sizes.k) z z'
+    → Searched sizes left a d b z t (found_at sizes left a d) (tried_at sizes left a d) d b z' r
 unfolding tried
-searched_end {h} {left} {a} {d} {b} {z} {z'} {t} {r} e s = rw e record {
+searched_end {sizes} {left} {a} {d} {b} {z} {z'} {t} {r} e s = rw e record {
   found = s.0;
   tried = s.1;
-  list = rw (sub-zero h.k) s.2;
+  list = rw (sub-zero sizes.k) s.2;
   slots = refl;
   kept = λ j l m. refl;
   beginning = refl;
   placed = λ j l. refl;
 }
 
-pub searched_visit : {h : Sizes} {left a : ℕ} {d b z d' b' z' : List ℕ} {t r : Tally} (fs : List (List ℕ)) (n : ℕ) → 0 < n →
-    Searched h left a d b z (record { found = t.found; tried = t.tried + 1 }) fs (n - 1) d' b' z' r → Searched h left a d b z t fs n d' b' z' r
-searched_visit fs n o s =
-    record { found = s.found; tried = omega (arith, s.tried); list = s.list; slots = s.slots; kept = s.kept; beginning = s.beginning; placed = s.placed }
+pub searched_visit : {sizes : Sizes} {left a : ℕ} {d b z d' b' z' : List ℕ} {t s r : Tally} (fs : List (List ℕ)) (n : ℕ) → 0 < n →
+    s ≡ record t { tried = t.tried + 1 } → Searched sizes left a d b z s fs (n - 1) d' b' z' r → Searched sizes left a d b z t fs n d' b' z' r
+searched_visit {sizes} {left} {a} {d} {b} {z} {d'} {b'} {z'} {t} {s} {r} fs n o e v =
+    let u : Searched sizes left a d b z (record t { tried = t.tried + 1 }) fs (n - 1) d' b' z' r = rw e at v in
+    record { found = u.found; tried = omega (arith, u.tried); list = u.list; slots = u.slots; kept = u.kept; beginning = u.beginning; placed = u.placed }

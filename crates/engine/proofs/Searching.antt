@@ -2,8 +2,7 @@
 use mathlib.Core.Path.{◌≡◌, ap₂}
 use mathlib.Core.Bool.{not}
 use mathlib.Core.List.{List}
-use Prim.Native.Nat.{ℕ, ◌+◌, ◌*◌, ◌≤◌}
-use native.Mathlib.Nat.{mul-le-mul_right}
+use Prim.Native.Nat.{ℕ, ◌+◌}
 use native.Mathlib.Omega.{arith}
 use lib.Dec.{T}
 use lib.ListN.{length}
@@ -16,9 +15,9 @@ use Rattle.algebra.proofs.Complete.{messages_long}
 use Rattle.search.specs.Search.{Asked, RootsLeft, roots_of, none}
 use Rattle.roots.specs.declared.Tally.{Tally}
 use Rattle.engine.specs.Word.{Listable, scoring_roots}
-use Rattle.sift.specs.Sift.{Scorable, enough}
+use Rattle.sift.specs.Sift.{enough}
 use Rattle.demands.proofs.Passing.{passing_parts}
-use Rattle.engine.proofs.Times.{times, times_triples, times_long, times_small}
+use Rattle.engine.proofs.Times.{IsWord, word_triples}
 use Rattle.runs.proofs.Places.{under_at}
 use Rattle.demands.proofs.Runs.{keep_long, rows_flat}
 
@@ -42,24 +41,11 @@ module _ {q k w l s : ℕ} {points word curve output work : List ℕ} (h : Lista
     count = omega (arith, h.list);
   }
 
-  pub scorable : Scorable q points word (times s (length points))
-  scorable = record {
-    field = h.worded.shape.field;
-    symbols = h.worded.same;
-    multiplicities = times_long h.worded;
-    places = h.worded.few;
-    few = times_small h.worded;
-    small = h.symbols;
-  }
-
   module _ {work' found found' : List ℕ} {r : Tally} (g : RootsLeft q k w l curve work found work' found' r) where
-    pub few_found : r.found * k ≤ l * k
-    few_found = mul-le-mul_right {m = r.found} {n = l} k (omega (arith, g.found, g.few))
-
     -- the runs that the search wrote are the roots, and those kept are the definition's
-    pub enough_is : enough q k w points word (times s (length points)) r.found found' ≡ scoring_roots q k w l s points word curve
+    pub enough_is : {ps rs ms : List ℕ} → IsWord s points word ps rs ms → enough q k w ps rs ms r.found found' ≡ scoring_roots q k w l s points word curve
     unfolding listed roots
-    enough_is =
-        ap₂ (sifted (ops q) w) (times_triples h.worded)
+    enough_is e =
+        ap₂ (sifted (ops q) w) (word_triples h.worded e)
         (rw (g.found, g.list) (unfold over in
         rows_flat k (roots_of q k w l curve) _ (keep_long k _ (messages (ops q) k) (messages_long (ops q) k))))

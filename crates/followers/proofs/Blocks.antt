@@ -6,7 +6,9 @@ use Prim.Native.Nat.{ℕ, zero, suc, ◌+◌, ◌-◌, ◌*◌, ◌<◌, ◌≤�
 use native.Mathlib.Omega.{arith}
 use borrow.Author.Tests.{eq-eqb, ne_eqb}
 use lib.Dec.{T, eqb}
-use lib.ListN.{length, get_or, set, drop, length-append}
+use lib.ListN.{length, get_or, set, take, drop, replicate, length-append}
+use lib.Seq.{get_or-take}
+use Rattle.std.proofs.lemmas.List.{length-take-le, get_or-replicate}
 use Rattle.rules.specs.Code.{eval}
 use Rattle.rules.specs.Field.{ops, modulus}
 use Rattle.rules.specs.Lists.{from, below, keep}
@@ -15,8 +17,8 @@ use Rattle.algebra.proofs.Search.{keep_append}
 use Rattle.buffers.specs.Change.{Changed}
 use Rattle.buffers.proofs.Change.{changed_none, changed_more, changed_front}
 use Rattle.followers.specs.Slot.{curve}
-use Rattle.followers.specs.Followers.{horner_at, head_value_at, zeros_from, following, followers_at, Appended}
-use Rattle.followers.proofs.Heads.{heads_none, heads_more, heads_all, heads_test}
+use Rattle.followers.specs.Followers.{horner_at, BlockValues, zeros_from, following, followers_at, Appended}
+use Rattle.followers.proofs.Heads.{heads_none, heads_more, heads_test}
 use Rattle.followers.proofs.Written.{written_append}
 
 from_append : (a m n : ℕ) → from a (m + n) ≡ from a m ++ from (a + m) n
@@ -55,10 +57,10 @@ kept_same s t a (suc n) h =
     ap₂ (λ (b : Bool) (xs : List ℕ). cond b (a ∷ xs) xs) first
     (kept_same s t (suc a) n (λ j l. let e : a + suc j ≡ suc a + j = omega arith in ap s (sym e) ∙ h (suc j) (omega arith) ∙ ap t e))
 
-pub appended_none : (a : ℕ) (d : List ℕ) → Appended [] a d d a
+appended_none : (a : ℕ) (d : List ℕ) → Appended [] a d d a
 appended_none a d = record { count = omega arith; list = changed_none _ a d }
 
-pub appended_to : {xs ys : List ℕ} {a r : ℕ} {d e : List ℕ} → Appended xs a d e r → xs ≡ ys → Appended ys a d e r
+appended_to : {xs ys : List ℕ} {a r : ℕ} {d e : List ℕ} → Appended xs a d e r → xs ≡ ys → Appended ys a d e r
 appended_to h e = rw e at h
 
 appended_append : {xs ys : List ℕ} {a b r : ℕ} {d e e' : List ℕ} → Appended xs a d e b → Appended ys b e e' r → Appended (xs ++ ys) a d e' r
@@ -68,94 +70,91 @@ appended_one : (v r : ℕ) (d : List ℕ) → r < length d → Appended (v ∷ [
 appended_one v r d l = record { count = omega arith; list = changed_more r v (changed_none _ r d) (omega arith) l refl }
 
 -- one symbol more of the block
-module _ (g n a i : ℕ) (d : List ℕ) {r : ℕ} {out₀ out : List ℕ} (h : Appended (zeros_from g i d) a out₀ out r) where
+module _ (g : ℕ) (d : List ℕ) (i : ℕ) {a r : ℕ} {out₀ out : List ℕ} (h : Appended (zeros_from g i d) a out₀ out r) where
   test_at : (b : Bool) → eqb (get_or d i 0) 0 ≡ b → eqb (get_or d (g + i - g) 0) 0 ≡ b
   test_at b e = let f : g + i - g ≡ i = omega arith in ap (λ (j : ℕ). eqb (get_or d j 0) 0) f ∙ e
 
-  pub room : get_or d i 0 ≡ 0 → i < n → a + length (zeros_from g n d) ≤ length out₀ → r < length out₀
+  pub room : get_or d i 0 ≡ 0 → i < length d → a + length (zeros_from g (length d) d) ≤ length out₀ → r < length out
   room z l m = omega (
     arith,
     h.count,
+    h.list.len,
     ap length (kept_more (λ x. eqb (get_or d (x - g) 0) 0) g i true (test_at true (eq-eqb _ 0 z))),
     length-append (zeros_from g i d) ((g + i) ∷ []),
-    kept_most (λ x. eqb (get_or d (x - g) 0) 0) g (i + 1) n (omega arith),
+    kept_most (λ x. eqb (get_or d (x - g) 0) 0) g (i + 1) (length d) (omega arith),
   )
 
-  pub collect_hit : get_or d i 0 ≡ 0 → i < n → a + length (zeros_from g n d) ≤ length out₀ → Appended (zeros_from g (i + 1) d) a out₀ (set out r (g + i)) (r + 1)
-  collect_hit z l m = appended_to (appended_append h (appended_one (g + i) r out (omega (arith, room z l m, h.list.len))))
+  pub collect_hit : get_or d i 0 ≡ 0 → i < length d → a + length (zeros_from g (length d) d) ≤ length out₀ →
+      Appended (zeros_from g (i + 1) d) a out₀ (set out r (g + i)) (r + 1)
+  collect_hit z l m = appended_to (appended_append h (appended_one (g + i) r out (room z l m)))
       (sym (kept_more (λ x. eqb (get_or d (x - g) 0) 0) g i true (test_at true (eq-eqb _ 0 z))))
 
   pub collect_miss : ¬ (get_or d i 0 ≡ 0) → Appended (zeros_from g (i + 1) d) a out₀ out r
   collect_miss z = appended_to h (sym (kept_more (λ x. eqb (get_or d (x - g) 0) 0) g i false (test_at false (ne_eqb _ 0 z)) ∙ append-nil (zeros_from g i d)))
 
-pub zeros_none : (g : ℕ) (d : List ℕ) → [] ≡ zeros_from g 0 d
+pub zeros_none : (g a : ℕ) (d out : List ℕ) → Appended (zeros_from g 0 d) a out out a
 unfolding keep from
-zeros_none g d = refl
+zeros_none g a d out = appended_none a out
 
--- the values of Q(0, y), from the last coefficient on
-module _ (q first w l b : ℕ) (work : List ℕ) where
-  abbrev pub partly : ℕ → ℕ → ℕ
-  partly t i = eval (ops q) (drop t (firsts (ops q) (curve w l b work))) (first + i)
+-- a block holds the values of what the rows from t on begin with
+pub record Partly (q first w l b t : ℕ) (work acc : List ℕ) : Type 0 where
+  pub long : length acc ≡ 32
+  pub each : (i : ℕ) → i < 32 → get_or acc i 0 ≡ eval (ops q) (drop t (firsts (ops q) (curve w l b work))) (first + i)
 
-  pub values_none : {d e : List ℕ} → Changed (λ k. 0) 0 (length d) d e → Changed (partly (l + 1)) 0 (length e) e e
-  values_none h = record { len = refl; new = λ i k. h.new i (omega (arith, h.len)) ∙ heads_none q w l (first + i) _; low = λ i k. refl; high = λ i k. refl }
+pub partly_none : (q first w l b : ℕ) (work : List ℕ) → Partly q first w l b (l + 1) work (replicate 32 0)
+partly_none q first w l b work = record { long = refl; each = λ i k. get_or-replicate 32 i 0 0 k ∙ heads_none q w l (first + i) _ }
 
-  pub values_more : (t : ℕ) {acc₀ acc acc' : List ℕ} → 0 < w → 0 < t → t ≤ l + 1 → Changed (partly t) 0 (length acc₀) acc₀ acc →
-      Changed (horner_at q first (get_or work (b + (t - 1) * w) 0) acc) 0 (length acc) acc acc' → Changed (partly (t - 1)) 0 (length acc₀) acc₀ acc'
-  values_more t o p m h k = record {
-    len = k.len ∙ h.len;
-    new = λ i u. k.new i (omega (arith, h.len)) ∙ heads_more q w l (first + i) b work t _ o p m (changed_front h i u);
-    low = λ i u. k.low i u ∙ h.low i u;
-    high = λ i u. k.high i (omega (arith, h.len)) ∙ h.high i u;
-  }
+module _ {q first w l b t : ℕ} {work acc : List ℕ} (h : Partly q first w l b t work acc) where
+  pub partly_more : {acc' : List ℕ} → 0 < w → 0 < t → t ≤ l + 1 → Changed (horner_at q first (get_or work (b + (t - 1) * w) 0) acc) 0 32 acc acc' →
+      Partly q first w l b (t - 1) work acc'
+  partly_more o p m k = record { long = k.len ∙ h.long; each = λ i u. changed_front k i u ∙ heads_more q w l (first + i) b work t _ o p m (h.each i u) }
 
-  pub values_all : (t : ℕ) {d acc₀ acc : List ℕ} → t ≡ 0 → Changed (λ k. 0) 0 (length d) d acc₀ → Changed (partly t) 0 (length acc₀) acc₀ acc →
-      Changed (head_value_at q first w l b work) 0 (length d) d acc
-  values_all t z c h = record {
-    len = h.len ∙ c.len;
-    new = λ i k. h.new i (omega (arith, c.len)) ∙ heads_all q w l (first + i) _ t z;
-    low = λ i k. h.low i k ∙ c.low i k;
-    high = λ i k. h.high i (omega (arith, c.len)) ∙ c.high i k;
-  }
+  pub partly_all : t ≡ 0 → BlockValues q first w l b work acc
+  partly_all z = record { long = h.long; each = rw z at h.each }
+
+-- a block of n symbols more, and room for it
+module _ {q first w l b : ℕ} {work values : List ℕ} (m : T (modulus q)) (v : BlockValues q first w l b work values) (n : ℕ) (fits : n ≤ 32) where
+  pub block_length : length (take n values) ≡ n
+  block_length = length-take-le n values (omega (arith, v.long))
 
   abbrev Q : List (List ℕ)
   Q = curve w l b work
 
-  -- a block more, and room for it
-  module _ (m : T (modulus q)) (n : ℕ) {r : ℕ} {acc₀ acc out₀ out : List ℕ} (u : n ≤ length acc₀) (v : Changed (head_value_at q first w l b work) 0 (length acc₀) acc₀ acc)
-      (h : Appended (following q Q first) 0 out₀ out r) where
-    same : keep (follows (ops q) Q) (from (0 + first) n) ≡ zeros_from first n acc
+  module _ {out₀ out : List ℕ} {r : ℕ} (h : Appended (following q (curve w l b work) first) 0 out₀ out r) where
+    abbrev xs : List ℕ
+    xs = take n values
+
+    same : keep (follows (ops q) Q) (from (0 + first) (length xs)) ≡ zeros_from first (length xs) xs
     same =
         let z : 0 + first ≡ first = omega arith in
-        ap (λ (a : ℕ). keep (follows (ops q) Q) (from a n)) z
-        ∙ kept_same (follows (ops q) Q) (λ x. eqb (get_or acc (x - first) 0) 0) first n
+        ap (λ (a : ℕ). keep (follows (ops q) Q) (from a (length xs))) z
+        ∙ kept_same (follows (ops q) Q) (λ x. eqb (get_or xs (x - first) 0) 0) first (length xs)
         (λ j x. let f : first + j - first ≡ j = omega arith in
-        sym (heads_test q w l (first + j) m Q (get_or acc (first + j - first) 0) (ap (λ (i : ℕ). get_or acc i 0) f ∙ changed_front v j (omega arith))))
+        let k : j < n = omega (arith, block_length) in
+        sym (heads_test q w l (first + j) m Q (get_or xs (first + j - first) 0)
+        (ap (λ (i : ℕ). get_or xs i 0) f ∙ get_or-take n values j 0 k ∙ v.each j (omega arith))))
 
-    more : following q Q (first + n) ≡ following q Q first ++ zeros_from first n acc
+    more : following q Q (first + length xs) ≡ following q Q first ++ zeros_from first (length xs) xs
     unfolding below
-    more = kept_append (follows (ops q) Q) 0 first n ∙ ap (◌++◌ (keep (follows (ops q) Q) (from 0 first))) same
+    more = kept_append (follows (ops q) Q) 0 first (length xs) ∙ ap (◌++◌ (keep (follows (ops q) Q) (from 0 first))) same
 
-    pub block : {r' : ℕ} {out' : List ℕ} → Appended (zeros_from first n acc) r out out' r' → Appended (following q Q (first + n)) 0 out₀ out' r'
-    block k = appended_to (appended_append h k) (sym more)
+    pub block : {r' next : ℕ} {out' : List ℕ} → Appended (zeros_from first (length xs) xs) r out out' r' → first + n ≡ next → Appended (following q Q next) 0 out₀ out' r'
+    block k e = appended_to (appended_append h k) (sym more ∙ ap (following q Q) (ap (◌+◌ first) block_length ∙ e))
 
-    pub block_room : first + n ≤ q → length (followers_at q w l b work) ≤ length out₀ → r + length (zeros_from first n acc) ≤ length out
+    pub block_room : first + n ≤ q → length (followers_at q w l b work) ≤ length out₀ → r + length (zeros_from first (length xs) xs) ≤ length out
     unfolding below
     block_room x y = omega (
       arith,
       h.count,
       h.list.len,
       ap length more,
-      length-append (following q Q first) (zeros_from first n acc),
-      kept_most (follows (ops q) Q) 0 (first + n) q x,
+      length-append (following q Q first) (zeros_from first (length xs) xs),
+      kept_most (follows (ops q) Q) 0 (first + length xs) q (omega (arith, block_length)),
     )
 
-pub following_none : (q : ℕ) (Q : List (List ℕ)) → [] ≡ following q Q 0
+pub following_none : (q : ℕ) (Q : List (List ℕ)) (out : List ℕ) → Appended (following q Q 0) 0 out out 0
 unfolding keep below from
-following_none q Q = refl
-
-pub following_all : (q n : ℕ) (Q : List (List ℕ)) {d e : List ℕ} {r : ℕ} → n ≡ q → Appended (following q Q n) 0 d e r → Appended (following q Q q) 0 d e r
-following_all q n Q e h = appended_to h (ap (following q Q) e)
+following_none q Q out = appended_none 0 out
 
 -- each symbol that is kept is one of those asked, and passes the test
 kept_each : (P : ℕ → Type 0) (test : ℕ → Bool) (a n : ℕ) → ((j : ℕ) → j < n → test (a + j) ≡ true → P (a + j)) →

@@ -13,7 +13,7 @@ use Rattle.rules.specs.Search.{rows, first, firsts, follows}
 use Rattle.algebra.proofs.Rows.{rows_length}
 use Rattle.prime.proofs.Below.{eval_below, alike_zero}
 use Rattle.buffers.proofs.Rows.{row_fits}
-use Rattle.runs.proofs.Value.{eval_none, eval_more, eval_all}
+use Rattle.runs.proofs.Value.{eval_none, eval_more}
 use Rattle.followers.specs.Slot.{run}
 
 pub run_at : (a n : ℕ) (d : List ℕ) (j : ℕ) → j < n → get_or (run a n d) j 0 ≡ get_or d (a + j) 0
@@ -64,6 +64,3 @@ module _ (q w : ℕ) where
     pub heads_test : T (modulus q) → (Q : List (List ℕ)) (sum : ℕ) → sum ≡ eval (ops q) (firsts (ops q) Q) g → eqb sum 0 ≡ follows (ops q) Q g
     unfolding follows
     heads_test m Q sum e = ap (λ (n : ℕ). eqb n 0) e ∙ sym (alike_zero q _ (eval_below q m (firsts (ops q) Q) g))
-
-    pub heads_all : (s : List ℕ) (t : ℕ) → t ≡ 0 → eval (ops q) (drop t (heads s)) g ≡ eval (ops q) (heads s) g
-    heads_all s t z = eval_all q (heads s) g t z

@@ -1,5 +1,5 @@
 -- The symbols that may follow a beginning, the blocks in which they are looked for, and the list that they are written to.
-use Rattle.std.specs.Prelude.{List, ◌≡◌, ℕ, ◌+◌, ◌-◌, ◌<◌, ◌≤◌, eqb, length, get_or}
+use Rattle.std.specs.Prelude.{List, ◌≡◌, ℕ, ◌+◌, ◌-◌, ◌<◌, eqb, length, get_or}
 use Rattle.rules.specs.Code.{eval}
 use Rattle.rules.specs.Field.{ops, plus, times}
 use Rattle.rules.specs.Lists.{from, below, keep}
@@ -15,11 +15,10 @@ horner_at q g c d i = plus q c (times q (g + i) (get_or d i 0))
 abbrev pub head_value_at : ℕ → ℕ → ℕ → ℕ → ℕ → List ℕ → ℕ → ℕ
 head_value_at q g w l b d i = eval (ops q) (firsts (ops q) (curve w l b d)) (g + i)
 
--- a block of n symbols from g on
-pub record Block (q g n : ℕ) : Type 0 where
-  pub some : 0 < n
-  pub small : n ≤ 32
-  pub fits : g + n ≤ q
+-- a block holds Q(0, y) at the 32 symbols from g on
+pub record BlockValues (q g w l b : ℕ) (d values : List ℕ) : Type 0 where
+  pub long : length values ≡ 32
+  pub each : (i : ℕ) → i < 32 → get_or values i 0 ≡ head_value_at q g w l b d i
 
 -- those of the n numbers from g on at which d is zero
 abbrev pub zeros_from : ℕ → ℕ → List ℕ → List ℕ

@@ -3,4 +3,5 @@ pub mod Rows
 pub mod Numbers
 pub mod Stepping
 pub mod Longer
+pub mod Columns
 pub mod Lengthened

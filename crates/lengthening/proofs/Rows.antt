@@ -25,29 +25,24 @@ unfolding moved
 moved_same d e b zero h = refl
 moved_same d e b (suc i) h = h (b + i) (omega arith)
 
-pub carrying_none : (q g w u : ℕ) (d : List ℕ) → Carrying q g w u u d d
-carrying_none q g w u d = record { len = refl; inner = λ t i l m. absurd (omega arith); low = λ k l. refl; high = λ k l. refl }
-
 module _ {q g w u : ℕ} {d e : List ℕ} where
-  pub carrying_more : {e' : List ℕ} (m a b : ℕ) → u ≤ m → b ≡ m * w → a ≡ b + w → Carrying q g w u m d e → Changed (shifted q g e a b) b w e e' →
+  pub carrying_more : {e' : List ℕ} (m : ℕ) → u ≤ m → Carrying q g w u m d e → Changed (shifted q g e (m * w + w) (m * w)) (m * w) w e e' →
       Carrying q g w u (m + 1) d e'
-  carrying_more {e'} m a b um is after h c = record {
+  carrying_more {e'} m um h c = record {
     len = c.len ∙ h.len;
     inner = λ t i ut tm l. below_more (λ t. u ≤ t → get_or e' (t * w + i) 0 ≡ shifted q g d (t * w + w) (t * w) i) m
         (λ t tm ut. c.low (t * w + i) (omega (arith, row_fits w tm)) ∙ h.inner t i ut tm l)
-        (λ ut. ap (λ (k : ℕ). get_or e' (k + i) 0) (sym is) ∙ c.new i l
-        ∙ ap₂ (λ (a b : ℕ). plus q a (times q g b)) (ap (λ (k : ℕ). moved e k i) is ∙ moved_same d e (m * w) i h.high)
-        (h.high (a + i) (omega arith) ∙ ap (λ (k : ℕ). get_or d (k + i) 0) (after ∙ ap (λ (k : ℕ). k + w) is)))
+        (λ ut. c.new i l ∙ ap₂ (λ (a b : ℕ). plus q a (times q g b)) (moved_same d e (m * w) i h.high) (h.high (m * w + w + i) (omega arith)))
         t tm ut;
     low = λ k l. c.low k (omega (arith, mul-le-mul_right w um)) ∙ h.low k l;
     high = λ k l. c.high k (omega (arith, row_end m w)) ∙ h.high k (omega (arith, row_end m w));
   }
 
-  pub carried_last : {e' : List ℕ} (l b : ℕ) → u ≤ l → b ≡ l * w → Carrying q g w u l d e → Changed (moved e b) b w e e' → Carried q g w l u d e'
-  carried_last {e'} l b ul is h c = record {
+  pub carried_last : {e' : List ℕ} (l : ℕ) → u ≤ l → Carrying q g w u l d e → Changed (moved e (l * w)) (l * w) w e e' → Carried q g w l u d e'
+  carried_last {e'} l ul h c = record {
     len = c.len ∙ h.len;
     inner = λ t i ut tl m. c.low (t * w + i) (omega (arith, row_fits w tl)) ∙ h.inner t i ut tl m;
-    last = λ i m. ap (λ (k : ℕ). get_or e' (k + i) 0) (sym is) ∙ c.new i m ∙ ap (λ (k : ℕ). moved e k i) is ∙ moved_same d e (l * w) i h.high;
+    last = λ i m. c.new i m ∙ moved_same d e (l * w) i h.high;
     low = λ k m. c.low k (omega (arith, mul-le-mul_right w ul)) ∙ h.low k m;
     high = λ k m. c.high k (omega arith) ∙ h.high k (omega arith);
   }
@@ -68,9 +63,6 @@ module _ {q g w u : ℕ} {d e : List ℕ} where
     high = λ k m. let f = row_fits w ul in h.high k m ∙ c.high k (omega arith);
   }
 
-pub moved_none : (w v b : ℕ) (d : List ℕ) → Moved w 0 v b d d
-moved_none w v b d = record { len = refl; moved = λ t i l. absurd (omega arith); behind = λ t i l. absurd (omega arith); low = λ k l. refl }
-
 -- one more row is moved
 pub moved_more : {w v b : ℕ} {d e e' : List ℕ} (n : ℕ) → n * w + w ≤ b → v ≤ w → Moved w n v b d e → Changed (cut e (n * w) v w) (b + n * w) w e e' →
     Moved w (n + 1) v b d e'
@@ -89,6 +81,3 @@ moved_more {w} {v} {b} {d} {e} {e'} n nb vw h c = record {
   where
     sum3 : (i : ℕ) → b + (n * w + i) ≡ b + n * w + i
     sum3 i = omega arith
-
-pub moved_to : {w m n v b : ℕ} {d e : List ℕ} → Moved w m v b d e → m ≡ n → Moved w n v b d e
-moved_to h q = rw q at h

@@ -3,7 +3,6 @@ use mathlib.Core.Path.{◌≡◌, refl, sym, ap, ap₂, ◌∙◌}
 use mathlib.Core.Logic.{⊎_elim}
 use mathlib.Core.List.{List, map}
 use Prim.Native.Nat.{ℕ, zero, suc, ◌+◌, ◌-◌, ◌*◌, ◌<◌, ◌≤◌}
-use native.Mathlib.Nat.{sub-zero}
 use native.Mathlib.Omega.{arith}
 use lib.Dec.{T}
 use lib.ListN.{length, get_or, drop}
@@ -18,7 +17,7 @@ use Rattle.buffers.proofs.Change.{lt_or_ge}
 use Rattle.buffers.proofs.Rows.{row_end}
 use Rattle.within.specs.Runs.{moved}
 use Rattle.followers.specs.Slot.{SlotBelow}
-use Rattle.lengthening.specs.Lengthened.{RowTaken, Substituted}
+use Rattle.lengthening.specs.Lengthened.{RowTaken}
 use Rattle.lengthening.proofs.Numbers.{rows_values, number_zero, number_suc, number_tall, number_below, number_cell}
 
 pub record Stepping (q g w l u : ℕ) (d e : List ℕ) : Type 0 where
@@ -29,14 +28,6 @@ pub record Stepping (q g w l u : ℕ) (d e : List ℕ) : Type 0 where
 
 pub stepping_to : {q g w l u v : ℕ} {d e : List ℕ} → Stepping q g w l u d e → u ≡ v → Stepping q g w l v d e
 stepping_to h q = rw q at h
-
-pub stepped : {q g w l : ℕ} {d e : List ℕ} → Stepping q g w l 0 d e → Substituted q g w l d e
-stepped {q} {g} {w} {l} {d} {e} h =
-    record {
-      len = h.len;
-      cells = λ t i k j. h.cells t i (omega arith) k j ∙ ap (λ (n : ℕ). cell (ops q) (step (ops q) g (rows w (l + 1) d)) n i) (sub-zero t);
-      high = h.high;
-    }
 
 module _ (q : ℕ) (m : T (modulus q)) (g : ℕ) (gq : g < q) (w l : ℕ) (d : List ℕ) (b : SlotBelow q 0 ((l + 1) * w) d) where
   abbrev Q : List (List ℕ)

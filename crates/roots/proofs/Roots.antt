@@ -3,12 +3,13 @@ use mathlib.Core.Bool.{Bool, true, false, cond, not}
 use mathlib.Core.Path.{◌≡◌, refl, sym, ap, ap₂, ◌∙◌}
 use mathlib.Core.List.{List, [], ◌∷◌, ◌++◌, map, flatten, append-nil, append_assoc}
 use Prim.Native.Nat.{ℕ, ◌+◌, ◌-◌, ◌*◌, ◌≤◌}
-use native.Mathlib.Nat.{mul-one, mul-le-mul_left}
 use native.Mathlib.Omega.{arith}
 use native.Mathlib.Numerals.{add-one}
 use lib.Dec.{T}
 use lib.ListN.{length, get_or, take, drop}
 use lib.Seq.{get_or-take, length-take-le, take-take}
+use Rattle.std.proofs.lemmas.List.{places}
+use borrow.Rule.Slice.PartMut.{put_mid}
 use Rattle.rules.specs.Code.{zeros}
 use Rattle.rules.specs.Field.{ops}
 use Rattle.rules.specs.Refusal.{under}
@@ -19,9 +20,10 @@ use Rattle.buffers.proofs.Rows.{row_end}
 use Rattle.runs.specs.Runs.{blank}
 use Rattle.runs.proofs.Places.{under_of, zeros_blank}
 use borrow.Author.Tests.{not-true, not-false}
-use Rattle.roots.specs.declared.Sizes.{Sizes}
+use Rattle.roots.specs.declared.sizes.Sizes.{Sizes}
 use Rattle.roots.specs.declared.Tally.{Tally}
 use Rattle.followers.specs.Slot.{run, SlotBelow, curve}
+use Rattle.followers.specs.Followers.{Written}
 use Rattle.roots.specs.Ready.{listed, SearchReady}
 use Rattle.followers.proofs.Heads.{run_at}
 
@@ -29,8 +31,14 @@ use Rattle.followers.proofs.Heads.{run_at}
 pub room_one : (x k n : ℕ) (fs : List (List ℕ)) → fs ≡ [] ∷ [] → (x + length fs) * k ≤ n → x * k + k ≤ n
 room_one x k n fs e h = rw (← row_end x k) (rw e at h)
 
-pub count_fits : (x k n : ℕ) → 1 ≤ k → x * k + k ≤ n → x + 1 ≤ n
-count_fits x k n l h = omega (arith, mul-le-mul_left x l, mul-one x)
+-- the symbols copied in one piece
+pub written_part : {a k n : ℕ} (d ys xs : List ℕ) → a + n ≤ length d → length xs ≡ n → ys ≡ xs → k ≡ n → Written xs a d (put_mid a k d ys)
+written_part {a} {k} {n} d ys xs fits long same whole = record {
+  len = grind (arith, places);
+  new = grind (arith, places);
+  low = grind (arith, places);
+  high = grind (arith, places);
+}
 
 module _ (p : List ℕ) where
   pub listed_none : listed p [] ≡ []
@@ -82,13 +90,13 @@ module _ (q w l a : ℕ) (d : List ℕ) (low : SlotBelow q a ((l + 1) * w) d) (f
   found_end = ap (λ (b : Bool). cond b ([] ∷ []) []) (ap (zeros (ops q)) first_row ∙ zeros_blank q row row_low ∙ ap blank (sym row_part))
 
 -- the messages found where no symbol is left: by what the test of the row at y^0 says, one or none
-module _ {h : Sizes} {a n : ℕ} {d b z : List ℕ} {t : Tally} {fs : List (List ℕ)} {r : Bool} (ready : SearchReady h 0 a d b z t fs n)
-    (told : r ≡ blank (run a (a + h.w - a) d)) where
-  ends : (x : Bool) → r ≡ x → found (ops h.q) 0 (curve h.w h.l a d) ≡ cond x ([] ∷ []) []
-  ends x e = found_end h.q h.w h.l a d ready.low (omega (arith, ready.slots)) ∙ ap (λ (y : Bool). cond y ([] ∷ []) []) (sym told ∙ e)
+module _ {sizes : Sizes} {a n : ℕ} {d b z : List ℕ} {t : Tally} {fs : List (List ℕ)} {r : Bool} (ready : SearchReady sizes 0 a d b z t fs n)
+    (told : r ≡ blank (run a (a + sizes.rows.w - a) d)) where
+  ends : (x : Bool) → r ≡ x → found (ops sizes.rows.field.q) 0 (curve sizes.rows.w sizes.rows.l a d) ≡ cond x ([] ∷ []) []
+  ends x e = found_end sizes.rows.field.q sizes.rows.w sizes.rows.l a d ready.low (omega (arith, ready.slots)) ∙ ap (λ (y : Bool). cond y ([] ∷ []) []) (sym told ∙ e)
 
-  pub found_one : not r ≡ false → found (ops h.q) 0 (curve h.w h.l a d) ≡ [] ∷ []
+  pub found_one : not r ≡ false → found (ops sizes.rows.field.q) 0 (curve sizes.rows.w sizes.rows.l a d) ≡ [] ∷ []
   found_one e = ends true (not-false r e)
 
-  pub found_none : not r ≡ true → found (ops h.q) 0 (curve h.w h.l a d) ≡ []
+  pub found_none : not r ≡ true → found (ops sizes.rows.field.q) 0 (curve sizes.rows.w sizes.rows.l a d) ≡ []
   found_none e = ends false (not-true r e)

@@ -6,7 +6,8 @@ use Prim.Native.Nat.{ℕ, ◌+◌, ◌-◌, ◌*◌, ◌<◌, ◌≤◌, Fin}
 use native.Mathlib.Nat.{zero-add, sub_self, add-mul, mul-le-mul_right}
 use native.Mathlib.Omega.{arith}
 use lib.Dec.{T}
-use lib.ListN.{length, get_or, take, length-map}
+use Rattle.std.proofs.lemmas.List.{take_at}
+use lib.ListN.{length, get_or, take, drop, length-map, length-append, length-drop}
 use lib.Seq.{ext_get_or}
 use Rattle.rules.specs.Code.{zeros}
 use Rattle.rules.specs.Curve.{weighted}
@@ -24,15 +25,14 @@ use Rattle.prime.proofs.Below.{modulus_two}
 use Rattle.prime.proofs.Laws.{laws}
 use Rattle.demands.proofs.Link.{elt_hom, value_hom}
 use Rattle.demands.proofs.Listing.{roots_values}
-use borrow.Rule.Slice.PartMut.{put_mid, same_len_mid}
 use Rattle.buffers.specs.Change.{Changed}
 use Rattle.buffers.proofs.Change.{changed_list}
-use Rattle.buffers.proofs.Part.{len_mid, get_or_put_mid}
-use Rattle.roots.specs.declared.Sizes.{Sizes}
+use Rattle.buffers.proofs.Part.{len_mid}
+use Rattle.roots.specs.declared.sizes.Sizes.{Sizes}
 use Rattle.roots.specs.declared.Tally.{Tally}
 use Rattle.followers.specs.Slot.{run, curve}
 use Rattle.lengthening.specs.Lengthened.{SlotStripped}
-use Rattle.roots.specs.Ready.{found_at, tried_at, listed, SearchReady}
+use Rattle.roots.specs.Ready.{size, found_at, tried_at, listed, SearchReady}
 use Rattle.search.specs.Search.{Asked, CurveSearched, RootsLeft, roots_of, tried_of, none}
 use Rattle.beginnings.specs.Searched.{Searched}
 use Rattle.followers.proofs.Heads.{run_at, run_front}
@@ -98,13 +98,23 @@ module _ (q : ℕ) (m : T (modulus q)) (k w l : ℕ) (c : List ℕ) (o : 0 < w) 
   inside t = within_values q m w (l + 1) (k - 1) c low (rows_within F (laws q m h) k w l (map e c) (rw (← weighted_hom (ops q) F e (elt_hom q m h) k w l c) t))
 
 -- d₁ is the buffer with the curve in its spare, d₂ with the curve stripped behind it
-module _ {q k w l : ℕ} {c d z : List ℕ} {t : Tally} (asked : Asked q k w l c d z t) {d₁ d₂ : List ℕ} (st : SlotStripped w l ((l + 1) * w) d₁ d₂)
-    (len : length d₁ ≡ length d) (copied : (j : ℕ) → j < (l + 1) * w → get_or d₁ j 0 ≡ get_or c j 0) where
-  abbrev S : ℕ
-  S = (l + 1) * w
+module _ (sizes : Sizes) {c d z : List ℕ} {t : Tally} (asked : Asked sizes.rows.field.q sizes.k sizes.rows.w sizes.rows.l c d z t)
+    {d₁ d₂ : List ℕ} (st : SlotStripped sizes.rows.w sizes.rows.l (size sizes) d₁ d₂) (len : length d₁ ≡ length d)
+    (copied : (j : ℕ) → j < size sizes → get_or d₁ j 0 ≡ get_or c j 0) where
+  abbrev q : ℕ
+  q = sizes.rows.field.q
 
-  abbrev sizes : Sizes
-  sizes = record { q = q; k = k; w = w; l = l }
+  abbrev k : ℕ
+  k = sizes.k
+
+  abbrev w : ℕ
+  w = sizes.rows.w
+
+  abbrev l : ℕ
+  l = sizes.rows.l
+
+  abbrev S : ℕ
+  S = size sizes
 
   -- what is found from the curve stripped, and how many beginnings are tried
   abbrev fs : List (List ℕ)
@@ -148,7 +158,6 @@ module _ {q k w l : ℕ} {c d z : List ℕ} {t : Tally} (asked : Asked q k w l c
 
   pub started : (b : List ℕ) → k ≤ length b → SearchReady sizes k S d₂ b z t fs ns
   started b fits = record {
-    sized = record { field = asked.field; symbols = asked.symbols; wide = asked.wide; tall = asked.tall };
     placed = omega arith;
     spare = omega arith;
     slots = omega (arith, slots, len, st.moved.len);
@@ -180,54 +189,14 @@ module _ {q k w l : ℕ} {c d z : List ℕ} {t : Tally} (asked : Asked q k w l c
     slots = s.slots ∙ st.moved.len ∙ len;
   }
 
--- the curve copied to the front of a buffer
-copied_front : (S n : ℕ) (d ys c : List ℕ) → n ≡ S → S ≤ length d → length c ≡ S → ys ≡ c →
-    (length (put_mid 0 n d ys) ≡ length d) × ((j : ℕ) → j < S → get_or (put_mid 0 n d ys) j 0 ≡ get_or c j 0)
-copied_front S n d ys c e fits long same =
-    let len : length ys ≡ n = ap length same ∙ long ∙ sym e in (
-      same_len_mid 0 n d ys (len ∙ sym (len_mid 0 n d (omega arith))),
-      λ j l. ap (λ (i : ℕ). get_or (put_mid 0 n d ys) i 0) (sym (zero-add j)) ∙ get_or_put_mid 0 n d (omega arith) ys len j (omega arith)
-          ∙ ap (λ (x : List ℕ). get_or x j 0) same,
-    )
-
--- what is asked of a curve is asked of its copy in the spare
-asked_spare : (q k w l : ℕ) (c d d₁ z : List ℕ) (t : Tally) → Asked q k w l c d z t → length d₁ ≡ length d →
-    ((j : ℕ) → j < (l + 1) * w → get_or d₁ j 0 ≡ get_or c j 0) → (run 0 ((l + 1) * w) d₁ ≡ c) × Asked q k w l (run 0 ((l + 1) * w) d₁) d₁ z t
-asked_spare q k w l c d d₁ z t h len copied = (
-  same,
-  rw same record {
-    field = h.field;
-    symbols = h.symbols;
-    few = h.few;
-    wide = h.wide;
-    tall = h.tall;
-    long = h.long;
-    low = h.low;
-    live = h.live;
-    fits = h.fits;
-    slots = rw len h.slots;
-    room = h.room;
-    count = h.count;
-  },
-)
-  where
-    fits : 0 + (l + 1) * w ≤ length d₁
-    fits = omega (arith, len, h.slots, add-mul k 2 ((l + 1) * w))
-
-    same : run 0 ((l + 1) * w) d₁ ≡ c
-    same = ext_get_or 0 (run 0 ((l + 1) * w) d₁) c (len_mid 0 ((l + 1) * w) d₁ fits ∙ sym h.long) λ j m.
-        let n : j < (l + 1) * w = omega (arith, len_mid 0 ((l + 1) * w) d₁ fits) in
-        run_front ((l + 1) * w) d₁ j n ∙ copied j n
-
 -- ys, which is the curve, stored over the spare
 pub copied_spare : {q k w l : ℕ} {c d z : List ℕ} {t : Tally} (ys : List ℕ) → Asked q k w l c d z t → ys ≡ c →
-    (length (put_mid 0 ((l + 1) * w - 0) d ys) ≡ length d) × (run 0 ((l + 1) * w) (put_mid 0 ((l + 1) * w - 0) d ys) ≡ c)
-    × Asked q k w l (run 0 ((l + 1) * w) (put_mid 0 ((l + 1) * w - 0) d ys)) (put_mid 0 ((l + 1) * w - 0) d ys) z t
-copied_spare {q} {k} {w} {l} {c} {d} {z} {t} ys h same =
-    let S = (l + 1) * w in
-    let f = copied_front S (S - 0) d ys c (omega arith) (omega (arith, h.slots, add-mul k 2 S)) h.long same in
-    let a = asked_spare q k w l c d (put_mid 0 (S - 0) d ys) z t h f.0 f.1 in
-    (f.0, a.0, a.1)
+    (length (ys ++ drop (length c) d) ≡ length d) × (run 0 ((l + 1) * w) (ys ++ drop (length c) d) ≡ c)
+copied_spare {q} {k} {w} {l} {c} {d} ys h same =
+    let fits : length c ≤ length d = omega (arith, h.long, h.slots, add-mul k 2 ((l + 1) * w)) in (
+      omega (arith, ap length same, length-append ys (drop (length c) d), length-drop (length c) d),
+      take_at ys (drop (length c) d) ((l + 1) * w) (ap length same ∙ h.long) ∙ same,
+    )
 
 -- the roots from the front on
 pub roots_front : {q k w l : ℕ} {c d d₁ z d₂ z' : List ℕ} {r : Tally} → Asked q k w l c d z none → length d₁ ≡ length d →

@@ -12,7 +12,7 @@ use Rattle.roots.specs.declared.Tally.{Tally}
 
 -- What a search of a curve needs: a field, a curve of its symbols that is not zero and fits its weighted degree,
 -- and room for its slots, its roots and its counts.
-pub record Asked (q k w l : ℕ) (curve work roots : List ℕ) (t : Tally) : Type 0 where
+pub record Asked (q k w l : ℕ) (curve work roots : List ℕ) (tally : Tally) : Type 0 where
   pub field : T (modulus q)
   pub symbols : 1 ≤ k
   pub few : k ≤ 64
@@ -23,8 +23,8 @@ pub record Asked (q k w l : ℕ) (curve work roots : List ℕ) (t : Tally) : Typ
   pub live : T (not (zeros (ops q) curve))
   pub fits : T (weighted (ops q) k w l curve)
   pub slots : (k + 2) * ((l + 1) * w) ≤ length work
-  pub room : (t.found + l) * k ≤ length roots
-  pub count : t.tried + (1 + l * k) < 2 ^ 64
+  pub room : (tally.found + l) * k ≤ length roots
+  pub count : tally.tried + (1 + l * k) < 2 ^ 64
 
 -- the roots of the curve
 abbrev pub roots_of : ℕ → ℕ → ℕ → ℕ → List ℕ → List (List ℕ)
@@ -35,10 +35,10 @@ abbrev pub tried_of : ℕ → ℕ → ℕ → ℕ → List ℕ → ℕ
 tried_of q k w l curve = beginnings (ops q) k (rows w (l + 1) curve)
 
 -- The tally counts the roots and the beginnings, at most ℓ and 1 + ℓ·k of them; the roots stand one after the other behind those found before.
-pub record CurveSearched (q k w l : ℕ) (curve work roots : List ℕ) (t : Tally) (work' roots' : List ℕ) (r : Tally) : Type 0 where
-  pub found : r.found ≡ t.found + length (roots_of q k w l curve)
-  pub tried : r.tried ≡ t.tried + tried_of q k w l curve
-  pub list : Written (flatten (roots_of q k w l curve)) (t.found * k) roots roots'
+pub record CurveSearched (q k w l : ℕ) (curve work roots : List ℕ) (tally : Tally) (work' roots' : List ℕ) (r : Tally) : Type 0 where
+  pub found : r.found ≡ tally.found + length (roots_of q k w l curve)
+  pub tried : r.tried ≡ tally.tried + tried_of q k w l curve
+  pub list : Written (flatten (roots_of q k w l curve)) (tally.found * k) roots roots'
   pub long : length (flatten (roots_of q k w l curve)) ≡ length (roots_of q k w l curve) * k
   pub few : length (roots_of q k w l curve) ≤ l
   pub bound : tried_of q k w l curve ≤ 1 + l * k

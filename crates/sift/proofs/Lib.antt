@@ -1,3 +1,3 @@
--- The lemmas of the crate: scores first, then the messages kept.
+-- The lemmas of the crate: the loop over triples and scores first, then the messages kept.
 mod Scoring
 mod Sifted

@@ -14,7 +14,7 @@ use Rattle.rules.specs.Field.{ops, alike, modulus}
 use Rattle.rules.specs.Code.{Triple, eval, meets, score}
 use Rattle.prime.proofs.Below.{eval_below, alike_below, alike_itself}
 use Rattle.weights.specs.Triples.{tripled}
-use Rattle.weights.proofs.Triples.{triple_at}
+use Rattle.weights.specs.declared.Triples.{Triples}
 
 module _ (q : ℕ) (m : T (modulus q)) where
   module _ (f : List ℕ) (z : Triple ℕ) where
@@ -26,16 +26,20 @@ module _ (q : ℕ) (m : T (modulus q)) where
     unfolding meets
     misses_it l h = alike_below q _ _ (eval_below q m f z.point) l ∙ ne_eqb _ _ h
 
-module _ (q : ℕ) (points word times f : List ℕ) where
+module _ (q : ℕ) (z : Triples) (f : List ℕ) where
   -- the score from place j on
   abbrev pub behind : ℕ → ℕ
-  behind j = score (ops q) (tripled (drop j points) (drop j word) (drop j times)) f
+  behind j = score (ops q) (tripled (drop j z.points.now) (drop j z.word.now) (drop j z.times.now)) f
 
-  pub behind_more : (j : ℕ) → length word ≡ length points → length times ≡ length points → j < length points →
-      behind j ≡ cond (meets (ops q) f (triple_at points word times j)) (get_or times j 0) 0 + behind (j + 1)
+  -- .. where the triple at place j is that of p, r and m
+  pub behind_more : (j p r m : ℕ) → j < length z.points.now → p ≡ get_or z.points.now j 0 → r ≡ get_or z.word.now j 0 → m ≡ get_or z.times.now j 0 →
+      behind j ≡ cond (meets (ops q) f (record { point = p; symbol = r; times = m })) m 0 + behind (j + 1)
   unfolding score tripled sum
-  behind_more j u v l = rw (add-one, drop-cons points j 0 l, drop-cons word j 0 (omega arith), drop-cons times j 0 (omega arith)) refl
+  behind_more j p r m l a b c =
+      let n : j < length z.word.now = omega (arith, z.symbols) in
+      let o : j < length z.times.now = omega (arith, z.multiplicities) in
+      rw (a, b, c, add-one, drop-cons z.points.now j 0 l, drop-cons z.word.now j 0 n, drop-cons z.times.now j 0 o) refl
 
-  pub behind_none : (j : ℕ) → length points ≤ j → behind j ≡ 0
+  pub behind_none : (j : ℕ) → length z.points.now ≤ j → behind j ≡ 0
   unfolding score tripled sum
-  behind_none j l = rw (drop_of_length-le points l) refl
+  behind_none j l = rw (drop_of_length-le z.points.now l) refl

@@ -2,7 +2,7 @@
 use mathlib.Core.Path.{◌≡◌, refl, sym, ap, ◌∙◌}
 use mathlib.Core.Bool.{Bool, true, false, cond}
 use mathlib.Core.List.{List, [], ◌∷◌, ◌++◌, flatten, append-nil}
-use Prim.Native.Nat.{ℕ, ◌+◌, ◌-◌, ◌*◌, ◌≤◌}
+use Prim.Native.Nat.{ℕ, ◌+◌, ◌*◌, ◌≤◌}
 use native.Mathlib.Numerals.{add-one}
 use native.Mathlib.Omega.{arith}
 use lib.ListN.{length, take, drop, length-append}
@@ -19,10 +19,6 @@ use Rattle.demands.proofs.Runs.{Long, keep_long, flat_length, flat_append, rows_
 pub at_most : (b : Bool) (n : ℕ) → cond b (n + 1) n ≤ n + 1
 at_most true n = omega arith
 at_most false n = omega arith
-
--- what is put there, with the end as the code has it
-pub put_is : (a n : ℕ) (d f : List ℕ) → put_mid a (a + n - a) d f ≡ put_mid a n d f
-put_is a n d f = let e : a + n - a ≡ n = omega arith in ap (λ (k : ℕ). put_mid a k d f) e
 
 module _ (q k m : ℕ) (points word times found output : List ℕ) where
   abbrev kept_of : ℕ → List (List ℕ)

@@ -5,19 +5,22 @@ use Prim.Native.Nat.{ℕ}
 use lib.ListN.{replicate}
 use Rattle.rules.specs.Field.{ops}
 use Rattle.rules.specs.Curve.{passes}
-use Rattle.engine.proofs.Times.{times_triples, checkable, conditions_are}
-use Rattle.engine.proofs.Cleared.{all_clear}
+use Rattle.engine.proofs.Times.{times_few, word_triples, conditions_are}
 use Rattle.engine.proofs.find.Goals as goal
 
+pub of_word-requires : goal.of_word-requires
+of_word-requires c = (c.requires.worded.few, c.requires.worded.same, times_few c.requires.worded)
+
 pub find-requires : goal.find-requires
-find-requires c =
-    (checkable c.requires.worded _ c.requires.whole, c.requires.slots, rw (conditions_are c.requires.worded) c.requires.enough)
+find-requires c = (c.requires.whole, c.requires.slots, rw (conditions_are c.requires.worded c.of_word.ensures) c.requires.enough)
 
 pub returns : goal.returns
 returns c =
+    let shape = c.args.shape in
     record {
       whole = c.find.auto.curve ∙ c.requires.whole;
       small = c.find.ensures.small;
-      passing = subst (λ zs. T (passes (ops c.args.q) c.args.k c.args.w c.args.l zs c.find.new.curve)) (times_triples c.requires.worded) c.find.ensures.passing;
-      cleared = all_clear c.clear.ensures ∙ ap (λ (n : ℕ). replicate n 0) c.find.auto.work;
+      passing = subst (λ zs. T (passes (ops shape.field.q) shape.k shape.w shape.l zs c.find.new.curve))
+          (word_triples c.requires.worded c.of_word.ensures) c.find.ensures.passing;
+      cleared = c.fill.ensures.after (λ y e. e) ∙ ap (λ (n : ℕ). replicate n 0) c.find.auto.work;
     }

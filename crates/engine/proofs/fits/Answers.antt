@@ -2,13 +2,13 @@
 use mathlib.Core.Path.{ap, ◌∙◌}
 use Rattle.rules.specs.Field.{ops}
 use Rattle.rules.specs.Curve.{passes}
-use Rattle.engine.proofs.Times.{times_triples, checkable}
+use Rattle.engine.proofs.Times.{times_few, word_triples}
 use Rattle.engine.proofs.fits.Goals as goal
 
-pub passes-requires : goal.passes-requires
-passes-requires c =
-    (checkable c.requires.0 _ c.requires.1, c.requires.2)
+pub of_word-requires : goal.of_word-requires
+of_word-requires c = (c.requires.0.few, c.requires.0.same, times_few c.requires.0)
 
 pub returns : goal.returns
 returns c =
-    c.passes.ensures ∙ ap (λ zs. passes (ops c.args.q) c.args.k c.args.w c.args.l zs c.args.curve.now) (times_triples c.requires.0)
+    let shape = c.args.shape in
+    c.passes.ensures ∙ ap (λ zs. passes (ops shape.field.q) shape.k shape.w shape.l zs c.args.curve.now) (word_triples c.requires.0 c.of_word.ensures)

@@ -1,4 +1,6 @@
 -- lengthen: the slot is copied to the spare, stepped there, and stripped into the slot after it.
+use Rattle.std.proofs.lemmas.Grind.{common_steps}
+use native.Mathlib.Omega.{arith}
 use Rattle.lengthening.proofs.Lengthened.{lengthened}
 use Rattle.lengthening.proofs.lengthen.Goals as goal
 
@@ -6,5 +8,5 @@ pub returns : goal.returns
 returns c =
     let x = c.args in
     let p = c.requires in
-    lengthened x.q p.0 x.g p.1 x.w x.l x.a p.2 _ _ _ _ p.4 p.5 p.6 c.copy_within.ensures
-    c.substitute.ensures c.strip.ensures
+    lengthened x.rows.field.q x.rows.field.is_modulus x.g p.0 x.rows.w x.rows.l x.a x.rows.wide _ _ _ _ p.1 p.2 p.3 (grind (arith, common_steps))
+    c.substitute.ensures (rw c.size-size.ensures at c.strip.ensures)

@@ -3,5 +3,4 @@ use Rattle.lengthening.proofs.Rows.{row_taken}
 use Rattle.lengthening.proofs.take_row.Goals as goal
 
 pub returns : goal.returns
-returns c =
-    row_taken c.args.l c.requires.1 c.add_within.ensures c.carry.ensures
+returns c = row_taken c.args.rows.l c.requires.0 c.add_within.ensures c.carry.ensures

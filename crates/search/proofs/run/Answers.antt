@@ -9,11 +9,13 @@ use Rattle.search.proofs.run.Goals as goal
 pub visit-requires : goal.visit-requires
 visit-requires c =
     let x = c.args in
-    let S = (x.l + 1) * x.w in
-    started c.requires c.strip.ensures refl (λ j m. sym (run_front S x.work.now j m)) _ (omega (arith, c.requires.few))
+    let S = (x.sizes.rows.l + 1) * x.sizes.rows.w in
+    let e = c.size-size.ensures in
+    rw e (started x.sizes c.requires (rw e at c.strip.ensures) refl (λ j m. sym (run_front S x.work.now j m)) _ (omega (arith, c.requires.few)))
 
 pub returns : goal.returns
 returns c =
     let x = c.args in
-    let S = (x.l + 1) * x.w in
-    given c.requires c.strip.ensures refl (λ j m. sym (run_front S x.work.now j m)) c.visit.ensures
+    let S = (x.sizes.rows.l + 1) * x.sizes.rows.w in
+    let e = c.size-size.ensures in
+    given x.sizes c.requires (rw e at c.strip.ensures) refl (λ j m. sym (run_front S x.work.now j m)) (rw e at c.visit.ensures)

@@ -8,10 +8,12 @@ use Rattle.sift.proofs.share.Goals as goal
 
 pub returns-then-eval-symbol : goal.returns-then-eval-symbol
 returns-then-eval-symbol c =
-    let z : Triple ℕ = record { point = c.args.point; symbol = c.args.symbol; times = c.args.m } in
-    (simp (meets_it c.args.q c.requires.0 c.args.message.now z (sym c.eval.ensures ∙ c.if-eval-symbol.true)), omega arith)
+    let f = c.args.field in
+    let z : Triple ℕ = record { point = c.args.point; symbol = c.args.symbol; times = c.args.times } in
+    (simp (meets_it f.q f.is_modulus c.args.message.now z (sym c.eval.ensures ∙ c.if-eval-symbol.true)) c.from.ensures, omega arith)
 
-pub returns : goal.returns
-returns c =
-    let z : Triple ℕ = record { point = c.args.point; symbol = c.args.symbol; times = c.args.m } in
-    (simp (misses_it c.args.q c.requires.0 c.args.message.now z c.requires.1 (λ e. c.if-eval-symbol.false (c.eval.ensures ∙ e))), omega arith)
+pub returns-else-eval-symbol : goal.returns-else-eval-symbol
+returns-else-eval-symbol c =
+    let f = c.args.field in
+    let z : Triple ℕ = record { point = c.args.point; symbol = c.args.symbol; times = c.args.times } in
+    (simp (misses_it f.q f.is_modulus c.args.message.now z c.requires (λ e. c.if-eval-symbol.false (c.eval.ensures ∙ e))), omega arith)
