@@ -10,7 +10,6 @@ use borrow.Author.Tests.{eq-eqb, ne_eqb}
 use Rattle.rules.specs.Setting.{Setting, R}
 use Rattle.rules.specs.Refusal.{find_refusal, list_refusal, read_refusal}
 use Rattle.rules.specs.Outcome.{Finding, Listing, Reading, over, cleared, used, list_of, tried_of, find_call, list_call, read_call, Finds, Reads}
-use Rattle.reader.specs.Calls.{finding, listing, reading}
 
 module _ {A : Type 0} (refusal : A → ℕ) (number : ℕ) (good bad : A) where
   pub record Decided (o : A) : Type 0 where
@@ -35,7 +34,8 @@ module _ (S : Setting) (points word curve work : List ℕ) where
 
   pub find_decided : {o : Finding} → Finds S points word curve work o
       → Decided (λ (o : Finding). o.refusal) find_number
-      (finding 0 0 0 (over (used S o.curve) curve) (cleared (R S) work)) (finding find_number 0 0 curve work) o
+      (record { refusal = 0; found = 0; tried = 0; curve = over (used S o.curve) curve; work = cleared (R S) work })
+      (record { refusal = find_number; found = 0; tried = 0; curve = curve; work = work }) o
   unfolding find_call
   find_decided h = decided _ _ _ _ refl refl h.rest
 
@@ -45,7 +45,8 @@ module _ (S : Setting) (points word Q output work : List ℕ) where
 
   pub list_decided : {o : Listing} → o ≡ list_call S points word Q output work → let fs = list_of S points word Q in
       Decided (λ (o : Listing). o.refusal) list_number
-      (listing 0 (length fs) (tried_of S Q) (over (flatten fs) output) (cleared (R S) work)) (listing list_number 0 0 output work) o
+      (record { refusal = 0; found = length fs; tried = tried_of S Q; output = over (flatten fs) output; work = cleared (R S) work })
+      (record { refusal = list_number; found = 0; tried = 0; output = output; work = work }) o
   unfolding list_call
   list_decided e = decided _ _ _ _ refl refl e
 
@@ -55,6 +56,7 @@ module _ (S : Setting) (points word output curve work : List ℕ) where
 
   pub read_decided : {o : Reading} → Reads S points word output curve work o → let Q = used S o.curve in let fs = list_of S points word Q in
       Decided (λ (o : Reading). o.refusal) read_number
-      (reading 0 (length fs) (tried_of S Q) (over (flatten fs) output) (over Q curve) (cleared (R S) work)) (reading read_number 0 0 output curve work) o
+      (record { refusal = 0; found = length fs; tried = tried_of S Q; output = over (flatten fs) output; curve = over Q curve; work = cleared (R S) work })
+      (record { refusal = read_number; found = 0; tried = 0; output = output; curve = curve; work = work }) o
   unfolding read_call
   read_decided h = decided _ _ _ _ refl refl h.rest

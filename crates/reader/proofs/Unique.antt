@@ -1,5 +1,5 @@
 -- Any two outcomes that the contract of a call allows are equal; of finding and reading, those with the same curve.
-use mathlib.Core.Path.{◌≡◌, sym, ap, ◌∙◌}
+use mathlib.Core.Path.{◌≡◌, sym, ap, ap₂, ◌∙◌}
 use mathlib.Core.Bool.{Bool}
 use mathlib.Core.List.{List}
 use Prim.Native.Nat.{ℕ}
@@ -19,19 +19,30 @@ use Rattle.rules.specs.Outcome.{
   list_call,
   read_call,
 }
-use Rattle.reader.specs.Calls.{encoded, checked}
+use Rattle.std.specs.Prelude.{Result, Ok, Err}
+use Rattle.causes.specs.declared.Refusal.{Refusal}
+use Rattle.causes.specs.Number.{refused}
+use Rattle.causes.proofs.Number.{never_zero, same_cause, same_refused}
+use Rattle.roots.specs.declared.Tally.{Tally}
+use Rattle.reader.specs.Calls.{encoded, checked, yes, found, tried}
 
--- the refusal numbers r, r' and what the output then holds
-pub encode_unique : (p n k : ℕ) (points message output : List ℕ) (r r' : ℕ) (e e' : List ℕ)
+-- the answers r, r' and what the output then holds
+pub encode_unique : (p n k : ℕ) (points message output : List ℕ) (r r' : Result (Unit {0}) Refusal) (e e' : List ℕ)
     → encoded r e ≡ encode_call p n k points message output → encoded r' e' ≡ encode_call p n k points message output → (r ≡ r') × (e ≡ e')
 encode_unique p n k points message output r r' e e' h h' =
-    (ap (λ (o : Encoded). o.refusal) (h ∙ sym h'), ap (λ (o : Encoded). o.output) (h ∙ sym h'))
+    (same_refused r r' (ap (λ (o : Encoded). o.refusal) (h ∙ sym h')), ap (λ (o : Encoded). o.output) (h ∙ sym h'))
 
--- the refusal numbers r, r' and the answers b, b'
-pub check_unique : (S : Setting) (points word Q : List ℕ) (r r' : ℕ) (b b' : Bool)
-    → checked r b ≡ check_call S points word Q → checked r' b' ≡ check_call S points word Q → (r ≡ r') × (b ≡ b')
-check_unique S points word Q r r' b b' h h' =
-    (ap (λ (o : Checked). o.refusal) (h ∙ sym h'), ap (λ (o : Checked). o.yes) (h ∙ sym h'))
+same_answer : (r r' : Result Bool Refusal) → refused r ≡ refused r' → yes r ≡ yes r' → r ≡ r'
+same_answer (Ok b) (Ok b') e f = ap Ok f
+same_answer (Ok b) (Err c') e f = absurd (never_zero c' (sym e))
+same_answer (Err c) (Ok b') e f = absurd (never_zero c e)
+same_answer (Err c) (Err c') e f = ap Err (same_cause c c' e)
+
+-- the answers r, r'
+pub check_unique : (S : Setting) (points word Q : List ℕ) (r r' : Result Bool Refusal)
+    → checked r ≡ check_call S points word Q → checked r' ≡ check_call S points word Q → r ≡ r'
+check_unique S points word Q r r' h h' =
+    same_answer r r' (ap (λ (o : Checked). o.refusal) (h ∙ sym h')) (ap (λ (o : Checked). o.yes) (h ∙ sym h'))
 
 -- of finding only the curve is free: outcomes with the same curve are equal
 pub find_unique : (S : Setting) (points word curve work : List ℕ) (o o' : Finding)

@@ -1,10 +1,14 @@
-// The refusal numbers 5 to 8 of what a call is lent, and the whole number of encode: the lowest that applies, and 0 where none does.
+// What a call refuses of what it is lent, by the causes 5 to 8, and all that encode refuses: the first cause that applies.
 #![tactic(auto)]
 
 ghost use Rattle.std.specs.Prelude.{◌≡◌, cond, not, [], ◌∷◌, ◌++◌, ◌<◌, ◌%◌, eqb};
 ghost use Rattle.rules.specs.Refusal.{◌if◌, ◌of◌, lowest, point_causes, encode_refusal};
+ghost use Rattle.causes.specs.Number.{refused};
 
+use causes::Refusal;
+use field::is_modulus;
 use runs::all_distinct;
+use setting::{Setting, code_in_ranges};
 
 pub mod slices;
 
@@ -17,82 +21,81 @@ pub fn of_proposed(
     symbols: &[u16],
     size: usize,
     curve: &[u16],
-) -> u16
-    ensures { result ≡ lowest (point_causes p n points.now ((m of symbols.now) ∷ (size of curve.now) ∷ [])) }
+) -> Result<(), Refusal>
+    ensures { refused result ≡ lowest (point_causes p n points.now ((m of symbols.now) ∷ (size of curve.now) ∷ [])) }
 {
     if !slices::three_long(n, points, m, symbols, size, curve) {
-        return 5;
+        return Err(Refusal::WrongLength);
     }
     if !slices::three_below(p, points, symbols, curve) {
-        return 6;
+        return Err(Refusal::NoSymbol);
     }
     if !all_distinct(points) {
-        return 7;
+        return Err(Refusal::EqualPoints);
     }
-    0
+    Ok(())
 }
 
 // 5 to 7 for n points and m symbols: no curve is one of no numbers.
-fn of_pair(p: usize, n: usize, points: &[u16], m: usize, symbols: &[u16]) -> u16
-    ensures { result ≡ lowest (point_causes p n points.now ((m of symbols.now) ∷ [])) }
+fn of_pair(p: usize, n: usize, points: &[u16], m: usize, symbols: &[u16]) -> Result<(), Refusal>
+    ensures { refused result ≡ lowest (point_causes p n points.now ((m of symbols.now) ∷ [])) }
 {
-    of_proposed(p, n, points, m, symbols, 0, &points[..0])
+    of_proposed(p, n, points, m, symbols, 0, &[])
 }
 
 // 5 to 7 for n points alone, as the points of a patch file come.
-pub fn of_points(p: usize, n: usize, points: &[u16]) -> u16
-    ensures { result ≡ lowest (point_causes p n points.now []) }
+pub fn of_points(p: usize, n: usize, points: &[u16]) -> Result<(), Refusal>
+    ensures { refused result ≡ lowest (point_causes p n points.now []) }
 {
-    of_pair(p, n, points, 0, &points[..0])
+    of_pair(p, n, points, 0, &[])
 }
 
-// The number that earlier causes give, or 8 where they give none and a room is too short.
-fn or_eight(number: u16, short: bool) -> u16
-    ensures { result ≡ cond (eqb number 0) (cond short 8 0) number }
+// 8 where the rooms are too short.
+fn of_rooms(short: bool) -> Result<(), Refusal>
+    ensures { refused result ≡ cond short 8 0 }
 {
-    if number != 0 {
-        return number;
-    }
     if short {
-        return 8;
+        return Err(Refusal::TooLittleRoom);
     }
-    0
+    Ok(())
 }
 
 // 5 to 8 for n points and as many symbols, where the rooms are too short or not.
-pub fn of_word(p: usize, n: usize, points: &[u16], word: &[u16], short: bool) -> u16
-    ensures { result ≡ lowest (point_causes p n points.now ((n of word.now) ∷ []) ++ (8 if short) ∷ []) }
+pub fn of_word(setting: Setting, points: &[u16], word: &[u16], short: bool) -> Result<(), Refusal>
+    ensures { refused result ≡ lowest (point_causes setting.p setting.n points.now ((setting.n of word.now) ∷ []) ++ (8 if short) ∷ []) }
 {
-    or_eight(of_pair(p, n, points, n, word), short)
+    of_pair(setting.p, setting.n, points, setting.n, word)?;
+    of_rooms(short)
 }
 
 // 5 to 8 for n points, as many symbols and a proposed curve of that size, where the rooms are too short or not.
 pub fn of_listing(
-    p: usize,
-    n: usize,
+    setting: Setting,
     points: &[u16],
     word: &[u16],
     size: usize,
     curve: &[u16],
     short: bool,
-) -> u16
-    ensures { result ≡ lowest (point_causes p n points.now ((n of word.now) ∷ (size of curve.now) ∷ []) ++ (8 if short) ∷ []) }
+) -> Result<(), Refusal>
+    ensures { refused result ≡ lowest (point_causes setting.p setting.n points.now ((setting.n of word.now) ∷ (size of curve.now) ∷ []) ++ (8 if short) ∷ []) }
 {
-    or_eight(of_proposed(p, n, points, n, word, size, curve), short)
+    of_proposed(setting.p, setting.n, points, setting.n, word, size, curve)?;
+    of_rooms(short)
 }
 
 // 5 to 8 for n points and a reel, whose words have so many symbols in all, where the rooms are too short or not.
-pub fn of_reel(p: usize, n: usize, points: &[u16], total: usize, short: bool) -> u16
+pub fn of_reel(p: usize, n: usize, points: &[u16], total: usize, short: bool) -> Result<(), Refusal>
     requires { 0 < n }
-    ensures { result ≡ lowest ((5 if not (eqb (total % n) 0)) ∷ (point_causes p n points.now [] ++ (8 if short) ∷ [])) }
+    ensures { refused result ≡ lowest ((5 if not (eqb (total % n) 0)) ∷ (point_causes p n points.now [] ++ (8 if short) ∷ [])) }
 {
     if total % n != 0 {
-        return 5;
+        return Err(Refusal::WrongLength);
     }
-    or_eight(of_points(p, n, points), short)
+    of_points(p, n, points)?;
+    of_rooms(short)
 }
 
-// The refusal number of the encode call.
+// What the encode call refuses. output is the buffer's length.
 pub fn of_encode(
     p: usize,
     n: usize,
@@ -100,14 +103,15 @@ pub fn of_encode(
     points: &[u16],
     message: &[u16],
     output: usize,
-) -> u16
-    ensures { result ≡ encode_refusal p n k points.now message.now output }
+) -> Result<(), Refusal>
+    ensures { refused result ≡ encode_refusal p n k points.now message.now output }
 {
-    if !field::is_modulus(p) {
-        return 1;
+    if !is_modulus(p) {
+        return Err(Refusal::NoModulus);
     }
-    if !setting::code_in_ranges(n, k) {
-        return 2;
+    if !code_in_ranges(n, k) {
+        return Err(Refusal::OutOfRange);
     }
-    or_eight(of_pair(p, n, points, k, message), output < n)
+    of_pair(p, n, points, k, message)?;
+    of_rooms(output < n)
 }

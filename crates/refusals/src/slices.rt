@@ -1,5 +1,6 @@
 // What the calls test of the slices that they take.
-ghost use Rattle.std.specs.Prelude.{◌≡◌, ◌&&◌, ◌||◌, ltb};
+ghost use Rattle.std.specs.Prelude.{◌≡◌, ◌&&◌, ltb};
+ghost use Rattle.std.specs.List.{list_any};
 ghost use Rattle.rules.specs.Refusal.{long, under};
 
 use runs::all_below;
@@ -15,44 +16,19 @@ pub fn three_long(
 ) -> bool
     ensures { result ≡ long n points.now && (long m symbols.now && long size curve.now) }
 {
-    if points.len() != n {
-        return false;
-    }
-    if symbols.len() != m {
-        return false;
-    }
-    curve.len() == size
+    points.len() == n && symbols.len() == m && curve.len() == size
 }
 
-// Whether a is less than x or b less than y: of two rooms one is too short.
-pub fn either_short(a: usize, x: usize, b: usize, y: usize) -> bool
-    ensures { result ≡ ltb a x || ltb b y }
+// Whether a room is too short: of each, how many numbers it has and how many it needs.
+pub fn any_short(rooms: &[(usize, usize)]) -> bool
+    ensures { result ≡ list_any (λ room. ltb room.0 room.1) rooms.now }
 {
-    if a < x {
-        return true;
-    }
-    b < y
-}
-
-// Whether of three rooms one is too short.
-pub fn any_short(a: usize, x: usize, b: usize, y: usize, c: usize, z: usize) -> bool
-    ensures { result ≡ ltb a x || ltb b y || ltb c z }
-{
-    if either_short(a, x, b, y) {
-        return true;
-    }
-    c < z
+    rooms.iter().any(|(has, needs)| has < needs)
 }
 
 // Whether each of the points, of the symbols and of a curve is below p.
 pub fn three_below(p: usize, points: &[u16], symbols: &[u16], curve: &[u16]) -> bool
     ensures { result ≡ under p points.now && (under p symbols.now && under p curve.now) }
 {
-    if !all_below(p, points) {
-        return false;
-    }
-    if !all_below(p, symbols) {
-        return false;
-    }
-    all_below(p, curve)
+    all_below(p, points) && all_below(p, symbols) && all_below(p, curve)
 }

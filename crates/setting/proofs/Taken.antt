@@ -1,4 +1,4 @@
--- What a caller of `derive` learns from its contract: the refusal is the definition's, and where it is 0 the setting is accepted and the numbers are its own.
+-- What a caller of `derive` learns from its contract: the refusal is the definition's, and where there is none the setting is accepted and the numbers are its own.
 use mathlib.Core.Path.{◌≡◌, refl, ap, sym, ◌∙◌}
 use mathlib.Core.Bool.{Bool, true, false, cond}
 use Prim.Native.Nat.{ℕ}
@@ -7,6 +7,9 @@ use borrow.Author.Tests.{eqb-true, eq-eqb}
 use Rattle.rules.specs.Setting.{Setting, W, ℓ, C, U, R}
 use Rattle.rules.specs.Refusal.{setting_refusal}
 use Rattle.rules.specs.Outcome.{Derived as Outcome, setting_call}
+use Rattle.std.specs.Prelude.{Result, Ok, Err}
+use Rattle.causes.specs.declared.Refusal.{Refusal}
+use Rattle.causes.specs.Number.{refused}
 use Rattle.setting.specs.declared.Derived.{Derived}
 use Rattle.setting.specs.Call.{outcome, refusing}
 use Rattle.setting.specs.Accepted.{Taken}
@@ -19,16 +22,20 @@ number_kept m o e = go (eqb m 0) refl
     go true t = e ∙ sym (eqb-true m 0 t)
     go false t = refl
 
-module _ (S : Setting) (d : Derived) (e : outcome d ≡ setting_call S) where
-  pub refusal_is : d.refusal ≡ setting_refusal S
+module _ (S : Setting) where
+  pub refusal_is : (r : Result Derived Refusal) → outcome r ≡ setting_call S → refused r ≡ setting_refusal S
   unfolding setting_call
-  refusal_is = ap (λ (o : Outcome). o.refusal) e ∙ number_kept (setting_refusal S) _ refl
+  refusal_is r e = told r ∙ ap (λ (o : Outcome). o.refusal) e ∙ number_kept (setting_refusal S) _ refl
+    where
+      told : (r : Result Derived Refusal) → refused r ≡ (outcome r).refusal
+      told (Ok d) = refl
+      told (Err cause) = refl
 
-  pub taken : d.refusal ≡ 0 → Taken S d
+  pub taken : (d : Derived) → outcome (Ok d) ≡ setting_call S → Taken S d
   unfolding setting_call
-  taken z =
-      let none : setting_refusal S ≡ 0 = sym refusal_is ∙ z in
-      let own : outcome d ≡ record { refusal = 0; W = W S; ℓ = ℓ S; C = C S; U = U S; R = R S } = e ∙ simp (eq-eqb (setting_refusal S) 0 none) in
+  taken d e =
+      let none : setting_refusal S ≡ 0 = sym (refusal_is (Ok d) e) in
+      let own : outcome (Ok d) ≡ record { refusal = 0; W = W S; ℓ = ℓ S; C = C S; U = U S; R = R S } = e ∙ simp (eq-eqb (setting_refusal S) 0 none) in
       record {
         accepted = accepted S none;
         is_W = ap (λ (o : Outcome). o.W) own;

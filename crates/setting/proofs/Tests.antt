@@ -2,7 +2,7 @@
 use mathlib.Core.Path.{◌≡◌, refl, sym, ◌∙◌}
 use mathlib.Core.Bool.{Bool, true, false, ◌&&◌, not}
 use mathlib.Core.List.{[], ◌∷◌}
-use Prim.Native.Nat.{ℕ, ◌≤◌}
+use Prim.Native.Nat.{ℕ}
 use native.Mathlib.Omega.{arith}
 use lib.Dec.{T, leb, ltb, leb→le, nleb→lt, ltb→lt, nltb→le}
 use borrow.Author.Tests.{le-leb, lt-ltb}
@@ -11,10 +11,6 @@ use Rattle.rules.specs.Setting.{Setting, code_ranges, ranges, ℓ, C, U}
 use Rattle.rules.specs.Refusal.{◌if◌, lowest, setting_causes, setting_refusal}
 use Rattle.rules.proofs.Tests.{both}
 use Rattle.setting.specs.Accepted.{Coded, Ranged, Passed}
-
-refuted : (b : Bool) → (T b → ⊥) → false ≡ b
-refuted true h = absurd (h tt)
-refuted false h = refl
 
 none_applies : (a b c d : Bool) → lowest ((1 if not a) ∷ (2 if not b) ∷ (3 if c) ∷ (4 if d) ∷ []) ≡ 0 → T a × T b × T (not c) × T (not d)
 unfolding lowest
@@ -38,13 +34,19 @@ module _ (n k : ℕ) where
         k_most = leb→le k n k_most;
       }
 
-  -- where the first three tests hold, the last decides
-  pub coded_last : 2 ≤ n → n ≤ 64 → 2 ≤ k → leb k n ≡ code_ranges n k
+  coded_true : Coded n k → code_ranges n k ≡ true
   unfolding code_ranges
-  coded_last a b c = simp (le-leb 2 n a, le-leb n 64 b, le-leb 2 k c)
+  coded_true h = simp (le-leb 2 n h.n_least, le-leb n 64 h.n_most, le-leb 2 k h.k_least, le-leb k n h.k_most)
 
-  pub not_coded : (Coded n k → ⊥) → false ≡ code_ranges n k
-  not_coded h = refuted (code_ranges n k) (λ t. h (coded t))
+  -- the two tests of the code: where the first holds, the second decides
+  module _ {a b : Bool} (is_n : a ≡ (leb 2 n && leb n 64)) (is_k : b ≡ (leb 2 k && leb k n)) where
+    pub coded_both : a ≡ true → b ≡ code_ranges n k
+    unfolding code_ranges
+    coded_both t = is_k ∙ rw (sym is_n ∙ t) refl
+
+  pub not_coded : {a : Bool} → a ≡ (leb 2 n && leb n 64) → a ≡ false → a ≡ code_ranges n k
+  unfolding code_ranges
+  not_coded is_n t = t ∙ simp (sym is_n ∙ t)
 
 module _ (S : Setting) where
   open S use {n, k, s, τ}
@@ -57,21 +59,26 @@ module _ (S : Setting) where
       let (code, s_least) = both (code_ranges n k) (leb 1 s) t2 in
       record { code = coded n k code; s_least = leb→le 1 s s_least; s_most = leb→le s 4 s_most; τ_most = ltb→lt τ n τ_most }
 
-  pub ranged_last : code_ranges n k ≡ true → 1 ≤ s → s ≤ 4 → ltb τ n ≡ ranges S
+  -- a test b that says so
+  pub ranged_if : {b : Bool} → b ≡ ranges S → b ≡ true → Ranged n k s τ
+  ranged_if is t = ranged (rw (sym is ∙ t) tt)
+
+  -- the three tests of the code
+  pub ranged_all : {b : Bool} → code_ranges n k ≡ true → b ≡ (leb 1 s && leb s 4) → b ≡ true → ltb τ n ≡ ranges S
   unfolding ranges
-  ranged_last a b c = simp (a, le-leb 1 s b, le-leb s 4 c)
+  ranged_all a is_s t = simp (a, sym is_s ∙ t)
 
   pub code_not_ranged : code_ranges n k ≡ false → false ≡ ranges S
   unfolding ranges
   code_not_ranged e = simp e
 
-  pub not_ranged : (Ranged n k s τ → ⊥) → false ≡ ranges S
-  not_ranged h = refuted (ranges S) (λ t. h (ranged t))
+  pub s_not_ranged : {b : Bool} → code_ranges n k ≡ true → b ≡ (leb 1 s && leb s 4) → b ≡ false → b ≡ ranges S
+  unfolding ranges
+  s_not_ranged a is_s t = t ∙ simp (a, sym is_s ∙ t)
 
   pub ranged_true : Ranged n k s τ → ranges S ≡ true
-  ranged_true r =
-      let code : code_ranges n k ≡ true = sym (coded_last n k (omega arith) (omega arith) (omega arith)) ∙ le-leb k n r.code.k_most in
-      sym (ranged_last code (omega arith) (omega arith)) ∙ lt-ltb τ n r.τ_most
+  unfolding ranges
+  ranged_true r = simp (coded_true n k r.code, le-leb 1 s r.s_least, le-leb s 4 r.s_most, lt-ltb τ n r.τ_most)
 
   pub passed : setting_refusal S ≡ 0 → Passed S
   unfolding setting_refusal setting_causes lowest

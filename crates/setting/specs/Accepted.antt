@@ -43,7 +43,7 @@ pub record Accepted (S : Setting) : Type 0 where
   pub one_slot : curve_length S ≤ R S
   pub R_most : R S < 2 ^ 20
 
--- S is accepted, and d has its numbers: what a caller of the setting call has where the refusal is 0
+-- S is accepted, and d has its numbers: what a caller of the setting call has where it does not refuse
 pub record Taken (S : Setting) (d : Derived) : Type 0 where
   pub accepted : Accepted S
   pub is_W : d.w ≡ W S

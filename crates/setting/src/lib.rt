@@ -1,21 +1,30 @@
 // The setting: its ranges and its derived numbers.
 #![tactic(auto)]
 
-ghost use Rattle.std.specs.Prelude.{◌≡◌, true, ℕ, ◌+◌, ◌-◌, ◌*◌, ◌/◌, ◌≤◌, ◌<◌};
+ghost use Rattle.std.specs.Prelude.{◌≡◌, ℕ, ◌+◌, ◌-◌, ◌*◌, ◌/◌, ◌≤◌, ◌<◌};
 ghost use Rattle.rules.specs.Lists.{below, sum};
-ghost use Rattle.rules.specs.Field.{modulus};
 ghost use Rattle.rules.specs.Setting.{code_ranges, ranges};
 ghost use Rattle.rules.specs.Outcome.{setting_call};
-ghost use Rattle.setting.specs.Call.{asked, outcome, refusing};
+ghost use Rattle.setting.specs.Call.{asked, outcome};
 ghost use Rattle.setting.specs.Sized.{Bound, Power};
 ghost use Rattle.setting.specs.Accepted.{Ranged};
 
+use causes::Refusal;
 use field::is_modulus;
 
-// What the setting call answers: the refusal or 0, then W, ℓ, C, U and R, all 0 where it refuses.
-#[derive(Clone, Copy)]
+// The modulus, the patch's places, the message's symbols, the multiplicity and the number of damaged places allowed, as they are asked for.
+#[derive(Clone, Copy, Debug, PartialEq, Eq)]
+pub struct Setting {
+    pub p: usize,
+    pub n: usize,
+    pub k: usize,
+    pub s: usize,
+    pub tau: usize,
+}
+
+// What is derived of an accepted setting: W, ℓ, C, U and R.
+#[derive(Clone, Copy, Debug, PartialEq, Eq, Default)]
 pub struct Derived {
-    pub refusal: u16,
     pub w: usize,
     pub l: usize,
     pub c: usize,
@@ -27,131 +36,87 @@ pub struct Derived {
 pub fn code_in_ranges(n: usize, k: usize) -> bool
     ensures { result ≡ code_ranges n k }
 {
-    if n < 2 {
-        return false;
-    }
-    if 64 < n {
-        return false;
-    }
-    if k < 2 {
-        return false;
-    }
-    k <= n
+    (2..=64).contains(&n) && (2..=n).contains(&k)
 }
 
-// The same, and "s (multiplicity) is 1 to 4, τ is 0 to n−1". The modulus has no part in it.
-fn in_ranges(n: usize, k: usize, s: usize, tau: usize) -> bool
-    ensures { (p : ℕ) → result ≡ ranges (asked p n k s tau) }
-{
-    if !code_in_ranges(n, k) {
-        return false;
+impl Setting {
+    // The same, and "s (multiplicity) is 1 to 4, τ is 0 to n−1". The modulus has no part in it.
+    fn in_ranges(self) -> bool
+        ensures { result ≡ ranges (asked self) }
+    {
+        code_in_ranges(self.n, self.k) && (1..=4).contains(&self.s) && self.tau < self.n
     }
-    if s < 1 {
-        return false;
+
+    // "W = s·(n−τ)"
+    fn degree_bound(self) -> usize
+        requires { Ranged self.n self.k self.s self.tau }
+        ensures { Bound self.n self.s self.tau result }
+    {
+        self.s * (self.n - self.tau)
     }
-    if 4 < s {
-        return false;
+
+    // "ℓ = (W−1) divided by (k−1), rounded down"
+    fn last_power(self, w: usize) -> usize
+        requires { (1 ≤ w) × (2 ≤ self.k) }
+        ensures { Power w self.k result }
+    {
+        (w - 1) / (self.k - 1)
     }
-    tau < n
-}
 
-// "W = s·(n−τ)"
-fn degree_bound(n: usize, s: usize, tau: usize) -> usize
-    requires { (n ≤ 64) × (1 ≤ s) × (s ≤ 4) × (tau < n) }
-    ensures { Bound n s tau result }
-{
-    s * (n - tau)
-}
-
-// "ℓ = (W−1) divided by (k−1), rounded down"
-fn last_power(w: usize, k: usize) -> usize
-    requires { (1 ≤ w) × (2 ≤ k) }
-    ensures { Power w k result }
-{
-    (w - 1) / (k - 1)
-}
-
-// "C = n·s·(s+1)/2, the number of conditions"
-fn conditions(n: usize, s: usize) -> usize
-    requires { (n ≤ 64) × (s ≤ 4) }
-    ensures { result ≡ n * s * (s + 1) / 2 }
-{
-    n * s * (s + 1) / 2
-}
-
-// "U = the sum of W − t·(k−1) for t from 0 to ℓ". off is t·(k−1).
-fn coefficients(w: usize, k: usize, l: usize) -> usize
-    requires { (w ≤ 256) × (2 ≤ k) × (k ≤ 64) × (l < w) × (l * (k - 1) < w) }
-    ensures { result ≡ sum (λ t. w - t * (k - 1)) (below (l + 1)) }
-{
-    let mut u: usize = 0;
-    let mut t: usize = 0;
-    let mut off: usize = 0;
-    while t <= l {
-        u += w - off;
-        off += k - 1;
-        t += 1;
+    // "C = n·s·(s+1)/2, the number of conditions"
+    fn conditions(self) -> usize
+        requires { (self.n ≤ 64) × (self.s ≤ 4) }
+        ensures { result ≡ self.n * self.s * (self.s + 1) / 2 }
+    {
+        self.n * self.s * (self.s + 1) / 2
     }
-    u
-}
 
-// "Work room R = (ℓ+k+4)·(ℓ+1)·W numbers"
-fn work_room(w: usize, k: usize, l: usize) -> usize
-    requires { (w ≤ 256) × (k ≤ 64) × (l ≤ 24) }
-    ensures { result ≡ (l + k + 4) * (l + 1) * w }
-{
-    (l + k + 4) * (l + 1) * w
-}
+    // "U = the sum of W − t·(k−1) for t from 0 to ℓ"
+    fn coefficients(self, w: usize, l: usize) -> usize
+        requires { (w ≤ 256) × (2 ≤ self.k) × (self.k ≤ 64) × (l < w) × (l * (self.k - 1) < w) }
+        ensures { result ≡ sum (λ t. w - t * (self.k - 1)) (below (l + 1)) }
+    {
+        let mut u = 0;
+        for t in 0..=l {
+            u += w - t * (self.k - 1);
+        }
+        u
+    }
 
-// "setting call: every derived number 0"
-fn refused(number: u16) -> Derived
-    ensures { outcome result ≡ refusing number }
-{
-    Derived {
-        refusal: number,
-        w: 0,
-        l: 0,
-        c: 0,
-        u: 0,
-        r: 0,
-    }
-}
-
-// The setting call for a modulus and parameters within their ranges: 3, 4 or the numbers.
-fn numbers(n: usize, k: usize, s: usize, tau: usize) -> Derived
-    requires { Ranged n k s tau }
-    ensures { (p : ℕ) → modulus p ≡ true → outcome result ≡ setting_call (asked p n k s tau) }
-{
-    let w = degree_bound(n, s, tau);
-    let l = last_power(w, k);
-    let c = conditions(n, s);
-    let u = coefficients(w, k, l);
-    if u <= c {
-        return refused(3);
-    }
-    if 24 < l {
-        return refused(4);
-    }
-    let r = work_room(w, k, l);
-    Derived {
-        refusal: 0,
-        w,
-        l,
-        c,
-        u,
-        r,
+    // "Work room R = (ℓ+k+4)·(ℓ+1)·W numbers"
+    fn work_room(self, w: usize, l: usize) -> usize
+        requires { (w ≤ 256) × (self.k ≤ 64) × (l ≤ 24) }
+        ensures { result ≡ (l + self.k + 4) * (l + 1) * w }
+    {
+        (l + self.k + 4) * (l + 1) * w
     }
 }
 
 // The setting call.
-pub fn derive(p: usize, n: usize, k: usize, s: usize, tau: usize) -> Derived
-    ensures { outcome result ≡ setting_call (asked p n k s tau) }
+pub fn derive(setting: Setting) -> Result<Derived, Refusal>
+    ensures { outcome result ≡ setting_call (asked setting) }
 {
-    if !is_modulus(p) {
-        return refused(1);
+    if !is_modulus(setting.p) {
+        return Err(Refusal::NoModulus);
     }
-    if !in_ranges(n, k, s, tau) {
-        return refused(2);
+    if !setting.in_ranges() {
+        return Err(Refusal::OutOfRange);
     }
-    numbers(n, k, s, tau)
+    let w = setting.degree_bound();
+    let l = setting.last_power(w);
+    let c = setting.conditions();
+    let u = setting.coefficients(w, l);
+    if u <= c {
+        return Err(Refusal::TooFewTerms);
+    }
+    if 24 < l {
+        return Err(Refusal::ListTooLong);
+    }
+    Ok(Derived {
+        w,
+        l,
+        c,
+        u,
+        r: setting.work_room(w, l),
+    })
 }

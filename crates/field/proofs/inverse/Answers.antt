@@ -1,21 +1,17 @@
--- inverse: the refusal number decides the answer.
-use mathlib.Core.Path.{sym, ◌∙◌}
-use native.Mathlib.Omega.{arith}
+-- inverse: the tests decide the answer.
+use mathlib.Core.Path.{◌∙◌}
 use Rattle.rules.specs.Outcome.{inverse_call}
-use Rattle.prime.proofs.Below.{modulus_small}
+use Rattle.causes.proofs.Number.{passed_on}
 use Rattle.field.proofs.Refuses.{accepted, computed_refused, computed_accepted, once}
 use Rattle.field.proofs.inverse.Goals as goal
 
-pub returns-then-number-ne0 : goal.returns-then-number-ne0
+pub returns-in_err-field_of : goal.returns-in_err-field_of
 unfolding inverse_call
-returns-then-number-ne0 c = computed_refused _ _ _ _ (c.refusal-number.ensures ∙ once _ _) c.if-number-ne0.true
+returns-in_err-field_of c = computed_refused _ _ _ (passed_on _ c.from_residual.ensures.1) (c.in_err-field_of.ensures.number ∙ once _ _)
 
-pub overflow_cast-p : goal.overflow_cast-p
-overflow_cast-p c = omega (arith, modulus_small c.args.p (accepted _ _ _ (sym c.refusal-number.ensures ∙ c.if-number-ne0.false)).field)
-
-pub inv-requires : goal.inv-requires
-inv-requires c = let k = accepted _ _ _ (sym c.refusal-number.ensures ∙ c.if-number-ne0.false) in (k.field, k.first)
+pub inverse-requires : goal.inverse-requires
+inverse-requires c = rw c.in_ok-field_of.ensures.named (accepted _ _ _ c.in_ok-field_of.ensures.number).first
 
 pub returns : goal.returns
 unfolding inverse_call
-returns c = computed_accepted _ _ _ _ (c.refusal-number.ensures ∙ once _ _) c.if-number-ne0.false c.inv.ensures
+returns c = computed_accepted _ _ _ (c.in_ok-field_of.ensures.number ∙ once _ _) (rw (← c.in_ok-field_of.ensures.named) c.inverse.ensures)

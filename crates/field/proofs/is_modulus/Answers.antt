@@ -1,18 +1,18 @@
--- is_modulus: what is tried up to d does not divide p, and beyond the square root nothing is left to try.
+-- is_modulus: outside 2 to 929 there is no prime that names a field, and within it the trial division decides.
+use Rattle.std.proofs.Common.{rules, tests, ◌*◌, ◌%◌, not, eqb, leb, ◌∙◌, refl}
+use Rattle.std.proofs.lemmas.Iterator.{YieldsList-from_range}
+use Rattle.std.proofs.lemmas.Iterator.Search.{all_from_yields_List, YieldsList-from_take_while}
+use Rattle.field.proofs.Modulus.{trial, outside}
 use native.Mathlib.Omega.{arith}
-use borrow.Author.Rules.{rules}
-use Rattle.field.proofs.Modulus.{prime_is, prime_not, untried, double}
 use Rattle.field.proofs.is_modulus.Goals as goal
 
-pub returns-then-p-lt2 : goal.returns-then-p-lt2
-returns-then-p-lt2 c = prime_not _ (λ h. omega (arith, h.two))
+pub returns-then-contains : goal.returns-then-contains
+returns-then-contains c =
+    let p = c.args.p in
+    all_from_yields_List (λ d. not (eqb (p % d) 0)) _ _ _ c.all.ensures.ran
+    (YieldsList-from_take_while _ (λ d. leb (d * d) p) (YieldsList-from_range 2 31 29 c.take_while.ensures.source refl) c.take_while.ensures.closure c.take_while.ensures.done (λ x b q k. search (rules, tests)))
+    (λ x b q k. search (rules, tests))
+    ∙ trial (search rules) (search rules) 2 29 refl (omega arith) (λ k lt l. absurd (omega arith))
 
-pub returns-then-p-gt929 : goal.returns-then-p-gt929
-returns-then-p-gt929 c = prime_not _ (λ h. omega (arith, h.small))
-
-pub returns-then-p-d-eq0 : goal.returns-then-p-d-eq0
-returns-then-p-d-eq0 c = prime_not _
-    (λ h. h.none c.loop-d.d (search rules) (omega (arith, double {d = c.loop-d.d} (search rules))) c.if-p-d-eq0.true)
-
-pub returns : goal.returns
-returns c = prime_is _ record { two = search rules; small = search rules; none = λ k l u. untried _ k _ (search rules) c.loop-d.invariant.3 l u }
+pub returns-else-contains : goal.returns-else-contains
+returns-else-contains c = c.if-contains.false ∙ outside (search rules)

@@ -1,21 +1,13 @@
--- sum: the refusal number decides the answer.
-use mathlib.Core.Path.{sym, ◌∙◌}
-use native.Mathlib.Omega.{arith}
+-- sum: the tests decide the answer.
 use Rattle.rules.specs.Outcome.{sum_call}
-use Rattle.prime.proofs.Below.{modulus_small}
-use Rattle.field.proofs.Refuses.{accepted, computed_refused, computed_accepted}
+use Rattle.causes.proofs.Number.{passed_on}
+use Rattle.field.proofs.Refuses.{computed_refused, computed_accepted}
 use Rattle.field.proofs.sum.Goals as goal
 
-pub returns-then-number-ne0 : goal.returns-then-number-ne0
+pub returns-in_err-field_of : goal.returns-in_err-field_of
 unfolding sum_call
-returns-then-number-ne0 c = computed_refused _ _ _ _ c.refusal-number.ensures c.if-number-ne0.true
-
-pub overflow_cast-p : goal.overflow_cast-p
-overflow_cast-p c = omega (arith, modulus_small c.args.p (accepted _ _ _ (sym c.refusal-number.ensures ∙ c.if-number-ne0.false)).field)
-
-pub add-requires : goal.add-requires
-add-requires c = (accepted _ _ _ (sym c.refusal-number.ensures ∙ c.if-number-ne0.false)).field
+returns-in_err-field_of c = computed_refused _ _ _ (passed_on _ c.from_residual.ensures.1) c.in_err-field_of.ensures.number
 
 pub returns : goal.returns
 unfolding sum_call
-returns c = computed_accepted _ _ _ _ c.refusal-number.ensures c.if-number-ne0.false c.add.ensures
+returns c = computed_accepted _ _ _ c.in_ok-field_of.ensures.number (rw (← c.in_ok-field_of.ensures.named) c.add.ensures)

@@ -1,22 +1,26 @@
--- check: the setting's refusal decides, then that of the slices, and then whether the curve passes.
+-- check: what the setting is refused for decides, then what the slices are, and then whether the curve passes.
+use mathlib.Core.Path.{refl}
+use Rattle.causes.proofs.Number.{passed_on}
+use Rattle.setting.specs.Call.{asked}
 use Rattle.reader.proofs.Settled.{checkable}
-use Rattle.reader.proofs.Checking.{check_unsettled, check_tested, check_refused, check_accepted}
+use Rattle.reader.proofs.Checking.{CheckTested, check_unsettled, check_tested, check_refused, check_accepted}
 use Rattle.reader.proofs.check.Goals as goal
+use Rattle.reader.proofs.check.Goals.{In_ok-of_proposed}
 
-pub returns-then-t-ne0 : goal.returns-then-t-ne0
-returns-then-t-ne0 c = check_unsettled c.of_setting-t.ensures _ _ _ c.if-t-ne0.true
+-- where nothing was refused
+known : (c : In_ok-of_proposed) → CheckTested (asked c.args.setting) c.in_ok-terms.terms c.args.points.now c.args.word.now c.args.curve.now 0
+known c = check_tested _ _ _ c.in_ok-terms.ensures c.in_ok-of_proposed.ensures
 
-pub returns-then-number-ne0 : goal.returns-then-number-ne0
-returns-then-number-ne0 c =
-    let known = check_tested c.of_setting-t.ensures c.args.points.now c.args.word.now c.args.curve.now c.if-t-ne0.false c.of_proposed-number.ensures in
-    check_refused known c.if-number-ne0.true
+pub returns-in_err-terms : goal.returns-in_err-terms
+returns-in_err-terms c = check_unsettled _ _ _ (passed_on _ c.from_residual.ensures.1) c.in_err-terms.ensures
+
+pub returns-in_err-of_proposed : goal.returns-in_err-of_proposed
+returns-in_err-of_proposed c =
+    check_refused (passed_on _ c.from_residual-in_err-of_proposed.ensures.1)
+    (check_tested _ _ _ c.in_ok-terms.ensures c.in_err-of_proposed.ensures)
 
 pub fits-requires : goal.fits-requires
-fits-requires c =
-    let known = check_tested c.of_setting-t.ensures c.args.points.now c.args.word.now c.args.curve.now c.if-t-ne0.false c.of_proposed-number.ensures in
-    checkable known.settled (known.granted c.if-number-ne0.false)
+fits-requires c = let h = known (goal.at.fits-requires c).In_ok-of_proposed in checkable h.settled (h.granted refl)
 
 pub returns : goal.returns
-returns c =
-    let known = check_tested c.of_setting-t.ensures c.args.points.now c.args.word.now c.args.curve.now c.if-t-ne0.false c.of_proposed-number.ensures in
-    check_accepted known c.if-number-ne0.false c.fits.ensures
+returns c = check_accepted (known (goal.at.returns c).In_ok-of_proposed) c.fits.ensures

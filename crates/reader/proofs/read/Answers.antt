@@ -1,32 +1,39 @@
--- read: the setting's refusal decides, then that of the slices and the rooms; and the curve found is listed from.
-use Rattle.reader.proofs.Reading.{read_unsettled, read_tested, read_refused, readable, read_accepted}
-use native.Mathlib.Omega.{arith}
+-- read: what the setting is refused for decides, then what the slices and the rooms are; and the curve found is listed from.
+use mathlib.Core.Path.{refl}
+use Rattle.causes.proofs.Number.{passed_on}
+use Rattle.setting.specs.Call.{asked}
+use Rattle.reader.proofs.Front.{length_front}
+use Rattle.reader.proofs.Reading.{ReadTested, read_unsettled, read_tested, read_refused, readable, read_accepted}
 use Rattle.reader.proofs.read.Goals as goal
+use Rattle.reader.proofs.read.Goals.{In_ok-of_word}
 
-pub returns-then-t-ne0 : goal.returns-then-t-ne0
-returns-then-t-ne0 c = read_unsettled c.of_setting-t.ensures c.if-t-ne0.true c.empty.ensures
+-- where nothing was refused
+known : (c : In_ok-of_word)
+    → ReadTested (asked c.args.setting) c.in_ok-terms.terms c.args.points.now c.args.word.now c.args.output.now c.args.curve.now c.args.work.now 0
+known c = read_tested _ _ _ _ _ c.in_ok-terms.ensures c.any_short-short.ensures c.in_ok-of_word.ensures
 
-pub returns-then-number-ne0 : goal.returns-then-number-ne0
-returns-then-number-ne0 c =
-    let known = read_tested c.of_setting-t.ensures c.if-t-ne0.false c.any_short-short.ensures c.of_word-number.ensures in
-    read_refused known c.if-number-ne0.true c.empty-then-number-ne0.ensures
+pub returns-in_err-terms : goal.returns-in_err-terms
+returns-in_err-terms c = read_unsettled _ _ _ _ _ (passed_on _ c.from_residual.ensures.1) c.in_err-terms.ensures
+
+pub returns-in_err-of_word : goal.returns-in_err-of_word
+returns-in_err-of_word c =
+    read_refused _ _ _ _ _ (passed_on _ c.from_residual-in_err-of_word.ensures.1)
+    (read_tested _ _ _ _ _ c.in_ok-terms.ensures c.any_short-short.ensures c.in_err-of_word.ensures)
 
 pub slice_bounds-read-end : goal.slice_bounds-read-end
-slice_bounds-read-end c =
-    let known = read_tested c.of_setting-t.ensures c.if-t-ne0.false c.any_short-short.ensures c.of_word-number.ensures in
-    omega (arith, (known.granted c.if-number-ne0.false).curve_fits)
+slice_bounds-read-end c = ((known (goal.at.slice_bounds-read-end c).In_ok-of_word).granted refl).curve_fits
 
 pub slice_bounds-read-end-2 : goal.slice_bounds-read-end-2
-slice_bounds-read-end-2 c =
-    let known = read_tested c.of_setting-t.ensures c.if-t-ne0.false c.any_short-short.ensures c.of_word-number.ensures in
-    omega (arith, (known.granted c.if-number-ne0.false).work_fits)
+slice_bounds-read-end-2 c = length_front _ _ ((known (goal.at.slice_bounds-read-end-2 c).In_ok-of_word).granted refl).curve_fits
+
+pub slice_bounds-read-end-3 : goal.slice_bounds-read-end-3
+slice_bounds-read-end-3 c = ((known (goal.at.slice_bounds-read-end-3 c).In_ok-of_word).granted refl).work_fits
+
+pub slice_bounds-read-end-4 : goal.slice_bounds-read-end-4
+slice_bounds-read-end-4 c = length_front _ _ ((known (goal.at.slice_bounds-read-end-4 c).In_ok-of_word).granted refl).work_fits
 
 pub read-requires : goal.read-requires
-read-requires c =
-    let known = read_tested c.of_setting-t.ensures c.if-t-ne0.false c.any_short-short.ensures c.of_word-number.ensures in
-    readable known c.if-number-ne0.false
+read-requires c = readable (known (goal.at.read-requires c).In_ok-of_word)
 
 pub returns : goal.returns
-returns c =
-    let known = read_tested c.of_setting-t.ensures c.if-t-ne0.false c.any_short-short.ensures c.of_word-number.ensures in
-    read_accepted known c.if-number-ne0.false c.read.ensures.0 c.read.ensures.1 c.counted.ensures
+returns c = read_accepted (known (goal.at.returns c).In_ok-of_word) c.read.ensures.0 c.read.ensures.1

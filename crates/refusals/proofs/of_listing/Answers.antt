@@ -1,8 +1,11 @@
 -- of_listing: what the slices are refused for comes first, and then the room.
-use mathlib.Core.Path.{◌∙◌}
 use Rattle.rules.proofs.Given.{point_named}
-use Rattle.refusals.proofs.Rooms.{eight_behind}
+use Rattle.causes.proofs.Number.{passed_on}
+use Rattle.refusals.proofs.Rooms.{refused_before, eight_behind}
 use Rattle.refusals.proofs.of_listing.Goals as goal
 
+pub returns-in_err-of_proposed : goal.returns-in_err-of_proposed
+returns-in_err-of_proposed c = refused_before _ _ (passed_on _ c.from_residual.ensures.1) c.in_err-of_proposed.ensures
+
 pub returns : goal.returns
-returns c = c.or_eight.ensures ∙ eight_behind _ (point_named _ _ _ _) _ c.of_proposed.ensures
+returns c = eight_behind _ (point_named _ _ _ _) _ c.in_ok-of_proposed.ensures c.of_rooms.ensures

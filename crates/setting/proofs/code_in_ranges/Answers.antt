@@ -1,16 +1,10 @@
--- `code_in_ranges` is the definition's test: a false one refutes what the definition's facts say.
-use native.Mathlib.Omega.{arith}
-use Rattle.setting.proofs.Tests.{coded_last, not_coded}
+-- `code_in_ranges` is the definition's test, by way of two ranges.
+use Rattle.std.proofs.Common.{rules}
+use Rattle.setting.proofs.Tests.{coded_both, not_coded}
 use Rattle.setting.proofs.code_in_ranges.Goals as goal
 
-pub returns-then-n-lt2 : goal.returns-then-n-lt2
-returns-then-n-lt2 c = not_coded _ _ (λ h. omega arith)
+pub returns-then-contains : goal.returns-then-contains
+returns-then-contains c = coded_both c.args.n c.args.k {a = c.contains.result} (search rules) (search rules) c.if-contains.true
 
-pub returns-then-n-gt64 : goal.returns-then-n-gt64
-returns-then-n-gt64 c = not_coded _ _ (λ h. omega arith)
-
-pub returns-then-k-lt2 : goal.returns-then-k-lt2
-returns-then-k-lt2 c = not_coded _ _ (λ h. omega arith)
-
-pub returns : goal.returns
-returns c = coded_last _ _ (omega arith) (omega arith) (omega arith)
+pub returns-else-contains : goal.returns-else-contains
+returns-else-contains c = not_coded c.args.n c.args.k (search rules) c.if-contains.false

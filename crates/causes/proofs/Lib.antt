@@ -1,0 +1,2 @@
+-- The lemmas of the crate.
+pub mod Number
