@@ -4,7 +4,7 @@ use mathlib.Core.List.{List, [], ◌∷◌}
 use Prim.Native.Nat.{ℕ}
 use Rattle.rules.specs.Setting.{Setting}
 use Rattle.rules.specs.Outcome.{Finding, Reading, Finds}
-use Rattle.reader.specs.Calls.{finding}
+use Rattle.whitebeamish.specs.Numbers.{finding}
 use Rattle.reader.proofs.Alike.{find_alike, read_alike}
 use Rattle.answer.specs.Told.{told}
 use Rattle.whitebeamish.specs.Told.{ReadTold}

@@ -4,7 +4,7 @@ use mathlib.Core.List.{List, [], ◌∷◌}
 use Prim.Native.Nat.{ℕ}
 use Rattle.rules.specs.Setting.{Setting}
 use Rattle.rules.specs.Outcome.{Finding, Listing, Reading, Finds, used}
-use Rattle.reader.specs.Calls.{finding}
+use Rattle.whitebeamish.specs.Numbers.{finding}
 use Rattle.reader.proofs.Unique.{find_unique, read_unique}
 use Rattle.answer.specs.Told.{told}
 use Rattle.whitebeamish.specs.Told.{ListTold, ReadTold}

@@ -3,7 +3,7 @@ use Rattle.std.specs.Prelude.{◌≡◌, Bool, cond, List, [], ◌∷◌, ℕ}
 use Rattle.rules.specs.Setting.{Setting}
 use Rattle.rules.specs.Outcome.{Derived, Listing, Reads}
 use Rattle.answer.specs.Told.{told}
-use Rattle.reader.specs.Calls.{reading}
+use Rattle.whitebeamish.specs.Numbers.{reading}
 
 -- yes is 1 and no is 0
 abbrev pub number : Bool → ℕ
