@@ -1,5 +1,5 @@
 -- What reading a word with what is held gives: the refusals of the word alone, and the readings.
-use mathlib.Core.Path.{◌≡◌, refl, sym, ap, ◌∙◌}
+use mathlib.Core.Path.{◌≡◌, refl, ap, ◌∙◌}
 use mathlib.Core.Bool.{false, ◌||◌}
 use mathlib.Core.Logic.{◌⊎◌, inl, inr}
 use mathlib.Core.List.{List, [], ◌∷◌, ◌++◌, flatten}
@@ -102,13 +102,3 @@ module _ (S : Setting) (points word : List ℕ) (K : Known S points) where
 
     pub heard : length o.output ≡ 1536 → Heard S points word o.output o.refusal o.found
     heard l = record { list_long = l; is_refusal = refusal_is; accepted = listed }
-
-    -- refused or not, there are no more than the output holds
-    pub found_few : o.found ≤ length o.output
-    found_few = go (ℕ_discrete o.refusal 0)
-      where
-        go : Dec (o.refusal ≡ 0) → o.found ≤ length o.output
-        go (yes z) = (listed z).few
-        go (no n) =
-            let own = (read_decided S points word output curve work g).refused (λ z. n (refusal_is ∙ sym number_is ∙ z)) in
-            let q : o.found ≡ 0 = ap (λ (x : Reading). x.found) own in omega arith

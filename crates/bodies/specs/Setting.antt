@@ -1,9 +1,10 @@
 -- The struct of a record's setting, as crate rules has it.
 use Rattle.rules.specs.Setting.{Setting as Rule}
-use Rattle.bodies.specs.declared.Setting.{Setting}
+use Rattle.setting.specs.declared.Setting.{Setting}
+use Rattle.setting.specs.Call.{asked}
 
 abbrev pub setting_of : Setting → Rule
-setting_of s = record { p = s.p; n = s.n; k = s.k; s = s.s; τ = s.tau }
+setting_of s = asked s
 
 -- .. and the struct of a setting
 abbrev pub struct_of : Rule → Setting

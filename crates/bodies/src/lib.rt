@@ -1,120 +1,97 @@
 // The bodies of a patch file's records: the setting in one, what points and a word are refused for, and the lines of a word's readings.
 #![tactic(auto)]
 
-ghost use Rattle.std.specs.Prelude.{◌≡◌, ◌+◌, ◌*◌, ◌≤◌, length, take};
+ghost use Rattle.std.specs.Prelude.{◌≡◌, ◌+◌, ◌*◌, ◌≤◌, length};
 ghost use mathlib.Core.List.{[], ◌∷◌, flat_map};
 ghost use Rattle.rules.specs.Patch.{line, body, setting_in, setting_record_refusal, points_refusal};
 ghost use Rattle.rules.specs.Search.{rows};
-ghost use Rattle.text.specs.Wrote.{Wrote};
+ghost use Rattle.text.specs.Lines.{Writes};
 ghost use Rattle.bodies.specs.Setting.{setting_of};
-ghost use Rattle.bodies.specs.Heard.{Heard};
+ghost use Rattle.bodies.specs.Heard.{Heard, found_of};
+ghost use Rattle.causes.specs.Number.{refused};
 
-// "Kind 1: p, n, k, s, τ"
-#[derive(Clone, Copy)]
-pub struct Setting {
-    pub p: u16,
-    pub n: u16,
-    pub k: u16,
-    pub s: u16,
-    pub tau: u16,
-}
+use causes::Refusal;
+use parsing::Record;
+use setting::Setting;
+use text::Lines;
 
-// What reading a word gives: the refusal number or 0, and how many candidates there are.
-#[derive(Clone, Copy)]
-pub struct Reply {
-    pub refusal: u16,
-    pub found: u16,
-}
+// The program's room: the numbers of a list of candidates, of a curve, and of work.
+pub const LIST: usize = 1536;
 
-// The setting in the body.
-pub fn read_setting(bytes: &[u8]) -> Setting
-    requires { 14 ≤ length bytes.now }
-    ensures { setting_of result ≡ setting_in (body bytes.now) }
+pub const CURVE: usize = 6400;
+
+pub const WORK: usize = 24000;
+
+// The setting in the body: "Kind 1: p, n, k, s, τ"
+pub fn read_setting(given: Record<'_>) -> Setting
+    requires { 14 ≤ length given.bytes.now }
+    ensures { setting_of result ≡ setting_in (body given.entry.bytes.now) }
 {
-    let p = parsing::pair(bytes, 2);
-    let n = parsing::pair(bytes, 3);
-    let k = parsing::pair(bytes, 4);
-    let s = parsing::pair(bytes, 5);
-    let tau = parsing::pair(bytes, 6);
-    Setting { p, n, k, s, tau }
-}
-
-// The refusal number of the setting call, or 8 where the program's work is too small for it.
-pub fn setting_refusal(s: Setting) -> u16
-    ensures { result ≡ setting_record_refusal (setting_of s) }
-{
-    let derived = setting::derive(
-        s.p as usize,
-        s.n as usize,
-        s.k as usize,
-        s.s as usize,
-        s.tau as usize,
-    );
-    if derived.refusal != 0 {
-        return derived.refusal;
+    let number = |j| usize::from(parsing::pair(given.bytes, j));
+    Setting {
+        p: number(2),
+        n: number(3),
+        k: number(4),
+        s: number(5),
+        tau: number(6),
     }
-    if 24000 < derived.r {
-        return 8;
-    }
-    0
 }
 
-// The refusal number of points for a setting: 5, 6, 7, or 0.
-pub fn points_refusal(s: Setting, points: &[u16]) -> u16
-    ensures { result ≡ points_refusal (setting_of s) points.now }
+// What the setting call refuses, or that the program's work is too small for it.
+pub fn setting_refusal(setting: Setting) -> Result<(), Refusal>
+    ensures { refused result ≡ setting_record_refusal (setting_of setting) }
 {
-    refusals::of_points(s.p as usize, s.n as usize, points)
+    let derived = setting::derive(setting)?;
+    if derived.r > WORK {
+        return Err(Refusal::TooLittleRoom);
+    }
+    Ok(())
 }
 
-// Reads the word, which is the first m of its array, with a setting and points that were accepted.
-// The last three are room that the program lends to every word: the list is left in the first. What they held before does not count.
+// What is refused of points for a setting: 5, 6 or 7.
+pub fn points_refusal(setting: Setting, points: &[u16]) -> Result<(), Refusal>
+    ensures { refused result ≡ points_refusal (setting_of setting) points.now }
+{
+    refusals::of_points(setting.p, setting.n, points)
+}
+
+// The room that is lent to every word: the list of candidates is left in the first.
+#[derive(Drop)]
+pub struct Room {
+    pub list: [u16; LIST],
+    pub curve: [u16; CURVE],
+    pub work: [u16; WORK],
+}
+
+// Reads the word with a setting and points that were accepted: how many candidates there are. What the room held before does not count.
 pub fn read_held(
-    s: Setting,
-    points: &[u16; 64],
-    word: &[u16; 64],
-    m: usize,
-    list: &mut [u16; 1536],
-    curve: &mut [u16; 6400],
-    work: &mut [u16; 24000],
-) -> Reply
-    requires { (setting_record_refusal (setting_of s) ≡ 0) × (points_refusal (setting_of s) (take s.n points.now) ≡ 0) × (m ≤ 64) }
-    ensures { Heard (setting_of s) (take s.n points.now) (take m word.now) list.new result.refusal result.found }
+    setting: Setting,
+    points: &[u16],
+    word: &[u16],
+    room: &mut Room,
+) -> Result<usize, Refusal>
+    requires { (setting_record_refusal (setting_of setting) ≡ 0) × (points_refusal (setting_of setting) points.now ≡ 0) }
+    ensures { Heard (setting_of setting) points.now word.now room.new.list (refused result) (found_of result) }
 {
-    let n = s.n as usize;
-    let held: &[u16] = points;
-    let heard: &[u16] = word;
-    let reading = reader::read(
-        s.p as usize,
-        n,
-        s.k as usize,
-        s.s as usize,
-        s.tau as usize,
-        &held[..n],
-        &heard[..m],
-        list,
-        curve,
-        work,
-    );
-    Reply {
-        refusal: reading.refusal,
-        found: reading.found as u16,
-    }
+    let tally = reader::read(
+        setting,
+        points,
+        word,
+        &mut room.list,
+        &mut room.curve,
+        &mut room.work,
+    )?;
+    Ok(tally.found)
 }
 
 // "After it comes "+" and k symbols for each candidate": a line for each.
-pub fn candidates(list: &[u16], k: usize, found: usize, out: &mut [u8], at: usize) -> usize
-    requires { (found * k ≤ length list.now) × (at + found * (k * 6 + 2) ≤ length out.old) }
-    ensures { (result ≤ at + found * (k * 6 + 2))
-        × Wrote (flat_map (line (43 ∷ [])) (rows k found list.now)) at out.old out.new result }
+pub fn candidates(list: &[u16], k: usize, found: usize, lines: &mut Lines)
+    requires { (found * k ≤ length list.now) × (lines.old.len + found * (k * 6 + 2) ≤ length lines.old.out.now) }
+    ensures { (lines.new.len ≤ lines.old.len + found * (k * 6 + 2))
+        × Writes (flat_map (line (43 ∷ [])) (rows k found list.now)) lines.old lines.new }
 {
-    let mut j: usize = 0;
-    let mut a: usize = 0;
-    let mut to = at;
-    while j < found {
-        let e = a + k;
-        to = text::plus_line(&list[a..e], out, to);
-        a = e;
-        j += 1;
+    for j in 0..found {
+        let start = j * k;
+        lines.plus_line(&list[start..start + k]);
     }
-    to
 }

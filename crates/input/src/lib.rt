@@ -1,21 +1,24 @@
 // The records of a patch file, one after the other, from standard input.
 #![tactic(auto)]
 
-ghost use Rattle.std.specs.Prelude.{◌≤◌, length, take};
+ghost use Rattle.std.specs.Prelude.{◌≤◌, length, take, MatchResult};
 ghost use Rattle.rules.specs.Patch.{size};
 
-// The bytes of the next record, as far as the input has them: none at its end. Where a read fails, these words tell it.
-pub fn read_record(rt: &HostRuntime, all: &mut [u8], words: &[u8]) -> streams::Got
+use streams::Failed;
+
+// The bytes of the next record, as far as the input has them: how many they are, none at its end, or how many came before a read failed, which these words tell.
+pub fn read_record(rt: &HostRuntime, all: &mut [u8], words: &[u8]) -> Result<usize, Failed>
     requires { 132 ≤ length all.old }
-    ensures { (result.count ≤ 132) × (result.count ≤ size (take result.count all.new)) }
+    ensures { MatchResult result
+        (λ count. (count ≤ 132) × (count ≤ size (take count all.new)))
+        (λ failed. (failed.count ≤ 132) × (failed.count ≤ size (take failed.count all.new))) }
 {
-    let first = streams::fill(rt, &mut all[0..2], words);
-    let begun = first.count;
+    let begun = streams::fill(rt, &mut all[..2], words)?;
     let want = parsing::want(&all[..begun]);
-    let end = 2 + want;
-    let rest = streams::fill(rt, &mut all[2..end], words);
-    streams::Got {
-        count: begun + rest.count,
-        failed: first.failed | rest.failed,
+    match streams::fill(rt, &mut all[2..2 + want], words) {
+        Ok(rest) => Ok(begun + rest),
+        Err(failed) => Err(Failed {
+            count: begun + failed.count,
+        }),
     }
 }

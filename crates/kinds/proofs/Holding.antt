@@ -1,4 +1,4 @@
--- The struct that holds what crate rules says is held: what was put there is found there.
+-- The enum that holds what crate rules says is held: what was put there is found there.
 use mathlib.Core.Path.{◌≡◌, refl, sym, ap, ◌∙◌, subst}
 use mathlib.Core.List.{List, ◌++◌}
 use Prim.Native.Nat.{ℕ, zero, suc, ◌+◌, ◌-◌, ◌≤◌}
@@ -11,7 +11,9 @@ use Rattle.rules.specs.Patch.{Held, nothing, set, ready, setting_record_refusal,
 use Rattle.rules.proofs.Tests.{both}
 use Rattle.parsing.specs.Body.{Bodied}
 use Rattle.bodies.proofs.Refused.{points_given}
+use Rattle.setting.specs.declared.Setting.{Setting as Struct}
 use Rattle.kinds.specs.declared.Stock.{Stock}
+use Rattle.kinds.specs.declared.Stock.TheVariants.{Nothing, Set}
 use Rattle.kinds.specs.Holding.{held_of, stock, possible, Clean, Sound}
 
 pub none_kept : held_of (stock nothing) ≡ nothing
@@ -43,6 +45,14 @@ unfolding stock
 stock_clean nothing e = refl
 stock_clean (set S) e = refl
 stock_clean (ready S points) e = ap stock (sym e)
+
+pub nothing_clean : Clean Nothing
+unfolding stock
+nothing_clean = refl
+
+pub set_clean : (s : Struct) → Clean (Set s)
+unfolding stock
+set_clean s = refl
 
 module _ (held : Held) {h : Stock} (is : h ≡ stock held) where
   pub clean : held_of (stock held) ≡ held → Clean h

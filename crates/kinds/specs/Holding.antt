@@ -1,29 +1,24 @@
--- What the struct of this crate holds, as crate rules has it, and what the program can hold.
+-- What the enum of this crate holds, as crate rules has it, and what the program can hold.
 use Rattle.std.specs.Prelude.{◌≡◌, Bool, true, ◌&&◌, List, ◌++◌, ℕ, ◌-◌, T, eqb, length, take, replicate}
 use Rattle.rules.specs.Patch.{Held, nothing, set, ready, setting_record_refusal, points_refusal}
-use Rattle.bodies.specs.declared.Setting.{Setting}
+use Rattle.setting.specs.declared.Setting.{Setting}
 use Rattle.bodies.specs.Setting.{setting_of, struct_of}
-use Rattle.kinds.specs.declared.Stage.{Stage}
-use Rattle.kinds.specs.declared.Stage.TheVariants.{Nothing, Set, Ready}
 use Rattle.kinds.specs.declared.Stock.{Stock}
-
--- what is held at each stage
-abbrev pub at_stage : Stage → Setting → List ℕ → Held
-at_stage Nothing s points = nothing
-at_stage Set s points = set (setting_of s)
-at_stage Ready s points = ready (setting_of s) (take s.n points)
+use Rattle.kinds.specs.declared.Stock.TheVariants.{Nothing, Set, Ready}
 
 abbrev pub held_of : Stock → Held
-held_of h = at_stage h.stage h.setting h.points
+held_of Nothing = nothing
+held_of (Set s) = set (setting_of s)
+held_of (Ready s points) = ready (setting_of s) (take s.n points)
 
 -- a setting with the points in front of this array
 abbrev pub with_array : Setting → List ℕ → Stock
-with_array s points = record { stage = Ready; setting = s; points = points }
+with_array s points = Ready s points
 
--- the struct that holds this: every number of it, with zeros where nothing is held
+-- what holds this, every number of it, with zeros behind the points
 unfoldable pub stock : Held → Stock
-stock nothing = record { stage = Nothing; setting = record { p = 0; n = 0; k = 0; s = 0; tau = 0 }; points = replicate 64 0 }
-stock (set S) = record { stage = Set; setting = struct_of S; points = replicate 64 0 }
+stock nothing = Nothing
+stock (set S) = Set (struct_of S)
 stock (ready S points) = with_array (struct_of S) (points ++ replicate (64 - length points) 0)
 
 -- what the program can hold: what it accepted
@@ -32,7 +27,7 @@ possible nothing = true
 possible (set S) = eqb (setting_record_refusal S) 0
 possible (ready S points) = eqb (setting_record_refusal S) 0 && eqb (points_refusal S points) 0
 
--- zeros stand where nothing is held
+-- zeros stand behind the points
 abbrev pub Clean : Stock → Type 0
 Clean h = h ≡ stock (held_of h)
 

@@ -1,5 +1,5 @@
 -- Numbers of two bytes: which bytes number j has, and how many numbers there are.
-use mathlib.Core.Path.{◌≡◌, refl, sym, ap, ◌∙◌}
+use mathlib.Core.Path.{◌≡◌, sym, ap, ◌∙◌}
 use mathlib.Core.List.{List, [], ◌∷◌, ◌++◌}
 use Prim.Native.Nat.{ℕ, zero, suc, ◌+◌, ◌-◌, ◌*◌, ◌/◌, ◌<◌}
 use native.Mathlib.Omega.{arith}
@@ -10,11 +10,11 @@ use Rattle.text.proofs.Written.{sets_then}
 use Rattle.rules.specs.Patch.{pairs, body}
 
 -- number j is made of bytes 2·j and 2·j + 1
-pub pair_at : (b : List ℕ) (j : ℕ) → 2 * j + 1 < length b → get_or b (2 * j) 0 + 256 * get_or b (2 * j + 1) 0 ≡ get_or (pairs b) j 0
+pub pair_at : (b : List ℕ) (j : ℕ) → 2 * j + 1 < length b → get_or b (2 * j) 0 + get_or b (2 * j + 1) 0 * 256 ≡ get_or (pairs b) j 0
 unfolding pairs
 pair_at [] j l = absurd (omega arith)
 pair_at (low ∷ []) j l = absurd (omega arith)
-pair_at (low ∷ high ∷ b) zero l = refl
+pair_at (low ∷ high ∷ b) zero l = omega arith
 pair_at (low ∷ high ∷ b) (suc j) l = let q : 2 * suc j ≡ suc (suc (2 * j)) = omega arith in let r : 2 * suc j + 1 ≡ suc (suc (2 * j + 1)) = omega arith in
     rw (r, q) (pair_at b j (omega arith))
 

@@ -1,9 +1,12 @@
 -- The tests of a record's shape, case by case: a length that fits, how many bytes a record has, refusal 10.
 use mathlib.Core.Path.{◌≡◌, refl, sym, ap, ◌∙◌}
 use mathlib.Core.Bool.{Bool, true, false, not, ◌&&◌, ◌||◌}
+use mathlib.Core.Logic.{◌⊎◌, inl, inr}
 use mathlib.Core.List.{List, [], ◌∷◌, ◌++◌}
 use Prim.Native.Nat.{ℕ, ◌+◌, ◌%◌, ◌<◌, ◌≤◌}
 use native.Mathlib.Omega.{arith}
+use Rattle.std.specs.Option.{MatchOption}
+use Rattle.std.specs.Bool.{then_some}
 use lib.Dec.{eqb, leb, ltb}
 use lib.ListN.{length, get_or}
 use borrow.Author.Tests.{lt-ltb, le-ltb, le-leb, lt-leb, eq-eqb, ne_eqb, leb-true, eqb-true, ltb-false, not-false}
@@ -14,60 +17,62 @@ and_true : (a b : Bool) → a && b ≡ true → (a ≡ true) × (b ≡ true)
 and_true true b e = (refl, e)
 and_true false b e = absurd (let z : ◌≡◌ {A = ℕ} 0 1 = cc in omega arith)
 
-pub none_stated : (b : List ℕ) → length b < 2 → 0 ≡ length_of b
-unfolding length_of pairs
-none_stated [] l = refl
-none_stated (low ∷ []) l = refl
-none_stated (low ∷ high ∷ b) l = absurd (omega arith)
-
-pub stated : (b : List ℕ) (r : ℕ) → r ≡ get_or (pairs b) 0 0 → r ≡ length_of b
-unfolding length_of
-stated b r e = e
-
 module _ (n : ℕ) where
-  pub too_short : n < 2 → false ≡ length_fits n
+  pub outside : (n < 2) ⊎ (130 < n) → false ≡ length_fits n
   unfolding length_fits
-  too_short l = simp (lt-leb 2 n l)
+  outside (inl l) = simp (lt-leb 2 n l)
+  outside (inr l) = simp (le-leb 2 n (omega arith), lt-leb n 130 l)
 
-  pub too_long : 2 ≤ n → 130 < n → false ≡ length_fits n
+  pub even_fits : 2 ≤ n → n ≤ 130 → eqb (n % 2) 0 ≡ length_fits n
   unfolding length_fits
-  too_long l m = simp (le-leb 2 n l, lt-leb n 130 m)
-
-  pub even_fits : 2 ≤ n → n ≤ 130 → {r : Bool} → r ≡ eqb (n % 2) 0 → r ≡ length_fits n
-  unfolding length_fits
-  even_fits l m e = simp (le-leb 2 n l, le-leb n 130 m) e
+  even_fits l m = simp (le-leb 2 n l, le-leb n 130 m)
 
   -- a length that fits is from 2 to 130
   pub fits_bounds : length_fits n ≡ true → (2 ≤ n) × (n ≤ 130)
   unfolding length_fits
   fits_bounds e = let h = and_true (leb 2 n) _ (and_true (leb 2 n && leb n 130) _ e).0 in (leb-true 2 n h.0, leb-true n 130 h.1)
 
-module _ (b : List ℕ) (n : ℕ) (is : n ≡ length_of b) where
-  pub size_fits : true ≡ length_fits n → 2 + n ≡ size b
-  unfolding size
-  size_fits f = let q : length_fits (length_of b) ≡ true = ap length_fits (sym is) ∙ sym f in rw q (ap (λ x. 2 + x) is)
+-- a record that has not its first two bytes states no length that fits
+pub none_stated : (b : List ℕ) → length b < 2 → length_fits (length_of b) ≡ false
+unfolding length_fits length_of pairs
+none_stated [] l = refl
+none_stated (low ∷ []) l = refl
+none_stated (low ∷ high ∷ b) l = absurd (omega arith)
 
-  pub size_unfit : false ≡ length_fits n → 2 ≡ size b
-  unfolding size
-  size_unfit f = let q : length_fits (length_of b) ≡ false = ap length_fits (sym is) ∙ sym f in rw q
+-- the first number, if it fits
+pub first_fitting : (b : List ℕ) {n : ℕ} (t : Bool) → n ≡ get_or (pairs b) 0 0 → t ≡ length_fits n →
+    MatchOption (then_some t n) (length_fits (length_of b) ≡ false) (λ m. (m ≡ length_of b) × (length_fits m ≡ true))
+unfolding length_of
+first_fitting b true e f = (e, sym f)
+first_fitting b false e f = ap length_fits (sym e) ∙ sym f
 
-  pub broken_unfit : false ≡ length_fits n → true ≡ broken b
-  unfolding broken
-  broken_unfit f = let q : length_fits (length_of b) ≡ false = ap length_fits (sym is) ∙ sym f in simp q
+module _ (b : List ℕ) where
+  module _ (unfit : length_fits (length_of b) ≡ false) where
+    pub size_unfit : 2 ≡ size b
+    unfolding size
+    size_unfit = rw unfit
 
-  module _ (f : true ≡ length_fits n) where
+    pub broken_unfit : true ≡ broken b
+    unfolding broken
+    broken_unfit = simp unfit
+
+  module _ {n : ℕ} (is : n ≡ length_of b) (fits : length_fits n ≡ true) where
     fitting : length_fits (length_of b) ≡ true
-    fitting = ap length_fits (sym is) ∙ sym f
+    fitting = ap length_fits (sym is) ∙ fits
+
+    pub size_fits : 2 + n ≡ size b
+    unfolding size
+    size_fits = rw fitting (ap (λ x. 2 + x) is)
 
     pub broken_cut : length b < 2 + n → true ≡ broken b
     unfolding broken
     broken_cut l = simp (fitting, lt-ltb (length b) (2 + length_of b) (omega arith))
 
-    module _ (l : 2 + n ≤ length b) (j : ℕ) (e : j ≡ get_or (pairs b) 1 0) where
-      pub broken_setting : j ≡ 1 → {r : Bool} → r ≡ not (eqb n 12) → r ≡ broken b
+    module _ (l : 2 + n ≤ length b) {j : ℕ} (e : j ≡ get_or (pairs b) 1 0) where
+      pub broken_setting : j ≡ 1 → not (eqb n 12) ≡ broken b
       unfolding broken kind
-      broken_setting k h = simp (fitting, le-ltb (length b) (2 + length_of b) (omega arith), eq-eqb (get_or (pairs b) 1 0) 1 (sym e ∙ k))
-          (h ∙ ap (λ x. not (eqb x 12)) is)
+      broken_setting k = simp (fitting, le-ltb (length b) (2 + length_of b) (omega arith), eq-eqb (get_or (pairs b) 1 0) 1 (sym e ∙ k))
+          (ap (λ x. not (eqb x 12)) is)
 
       pub not_broken : ¬ (j ≡ 1) → false ≡ broken b
       unfolding broken kind

@@ -1,109 +1,86 @@
 // The program for patch files: it reads the records from standard input, and prints the lines of each. A read or write that fails stops it and is told.
 #![tactic(auto)]
 
-ghost use Rattle.std.specs.Prelude.{◌≡◌, false, ◌+◌, ◌^◌, ◌<◌, ◌≤◌, length};
+ghost use Rattle.std.specs.Prelude.{◌+◌, ◌^◌, ◌<◌, ◌≤◌, length, IfOk};
 ghost use Rattle.rules.specs.Patch.{nothing, size};
 ghost use Rattle.kinds.specs.Holding.{Sound};
 ghost use Rattle.records.specs.Stepped.{holding};
 ghost use Rattle.patch.specs.Completed.{Took, Went, Completed};
 
-// What a turn left: what is held then, whether the program goes on, and whether a read or a write failed.
+use bodies::Room;
+use records::Held;
+use streams::Failed;
+
+// What a turn left: what is held then, and whether the program goes on.
 #[derive(Clone, Copy)]
 struct Left {
-    held: records::Held,
+    held: Held,
     more: bool,
-    failed: bool,
 }
 
 // A record of which the input has these bytes: taken, its lines written. The rest is room for it.
 fn take(
     rt: &HostRuntime,
-    held: records::Held,
+    held: Held,
     bytes: &[u8],
-    list: &mut [u16; 1536],
-    curve: &mut [u16; 6400],
-    work: &mut [u16; 24000],
+    room: &mut Room,
     out: &mut [u8; 16384],
-) -> Left
+) -> Result<Left, Failed>
     requires { Sound held.stock × (held.turns + 1 < 2 ^ 64) × (length bytes.now ≤ 132) × (length bytes.now ≤ size bytes.now) }
-    ensures { Took held bytes.now result }
+    ensures { IfOk result (λ left. Took held bytes.now left) }
 {
-    let done = records::step(held, bytes, list, curve, work, out);
-    let wrote = done.wrote;
-    let lines: &[u8] = out;
-    let written = streams::put(
+    let done = records::step(held, bytes, room, out);
+    streams::put(
         rt,
-        &lines[..wrote],
+        &out[..done.wrote],
         b"patch: cannot write to standard output",
-    );
-    let next = done.held;
-    Left {
-        held: next,
+    )?;
+    Ok(Left {
+        held: done.held,
         more: done.more,
-        failed: !written,
-    }
+    })
 }
 
 // One turn. A read that fails is no end of the input, so nothing is said of what came before it of the record.
 fn turn(
     rt: &HostRuntime,
-    held: records::Held,
-    list: &mut [u16; 1536],
-    curve: &mut [u16; 6400],
-    work: &mut [u16; 24000],
+    held: Held,
+    room: &mut Room,
     out: &mut [u8; 16384],
-) -> Left
+) -> Result<Left, Failed>
     requires { Sound held.stock × (held.turns + 1 < 2 ^ 64) }
-    ensures { result.failed ≡ false → Went held result }
+    ensures { IfOk result (λ left. Went held left) }
 {
-    let mut bytes = [0u8; 132];
-    let got = input::read_record(rt, &mut bytes, b"patch: cannot read standard input");
-    if got.failed {
-        return Left {
-            held,
-            more: false,
-            failed: true,
-        };
-    }
-    let n = got.count;
-    take(rt, held, &bytes[..n], list, curve, work, out)
+    let mut bytes = [0; 132];
+    let count = input::read_record(rt, &mut bytes, b"patch: cannot read standard input")?;
+    take(rt, held, &bytes[..count], room, out)
 }
 
-// Takes turn after turn until one stops, and answers what it left: the end of the input, refusal 10, or a call that fails.
+// Takes turn after turn until one stops, and answers what it left: the end of the input or refusal 10. A call that fails stops it too.
 // Where no number is left for a further record, which cannot come about, it stops as where a call fails.
-fn read_all(
-    rt: &HostRuntime,
-    list: &mut [u16; 1536],
-    curve: &mut [u16; 6400],
-    work: &mut [u16; 24000],
-    out: &mut [u8; 16384],
-) -> Left
-    ensures { result.failed ≡ false → Completed (holding 0 nothing) result }
+fn read_all(rt: &HostRuntime, room: &mut Room, out: &mut [u8; 16384]) -> Result<Left, Failed>
+    ensures { IfOk result (λ left. Completed (holding 0 nothing) left) }
 {
     let mut held = records::start();
     while !records::is_full(held) {
-        let left = turn(rt, held, list, curve, work, out);
-        if left.failed {
-            return left;
-        }
+        let left = turn(rt, held, room, out)?;
         if !left.more {
-            return left;
+            return Ok(left);
         }
         held = left.held;
     }
-    Left {
-        held,
-        more: false,
-        failed: true,
-    }
+    Err(Failed { count: 0 })
 }
 
 // The room for every record is made here, once: a list of candidates, a curve, document 01's 24,000 numbers of work, and the lines.
+// What failed was told, and the end is no other.
 fn main(rt: HostRuntime) {
-    let mut list = [0u16; 1536];
-    let mut curve = [0u16; 6400];
-    let mut work = [0u16; 24000];
-    let mut out = [0u8; 16384];
-    read_all(&rt, &mut list, &mut curve, &mut work, &mut out);
+    let mut room = Room {
+        list: [0; bodies::LIST],
+        curve: [0; bodies::CURVE],
+        work: [0; bodies::WORK],
+    };
+    let mut out = [0; 16384];
+    let _ = read_all(&rt, &mut room, &mut out);
     streams::finish(&rt, b"patch: cannot close standard output");
 }

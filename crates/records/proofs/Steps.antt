@@ -5,31 +5,10 @@ use mathlib.Core.List.{List, [], ◌∷◌}
 use Prim.Native.Nat.{ℕ}
 use native.Mathlib.Omega.{arith}
 use lib.Dec.{T, eqb}
-use lib.ListN.{length, get_or}
+use lib.ListN.{length}
 use borrow.Author.Tests.{eq-eqb, ne_eqb}
 use Rattle.rules.specs.Setting.{Setting}
-use Rattle.rules.specs.Patch.{
-  Held,
-  nothing,
-  set,
-  ready,
-  Turn,
-  pairs,
-  kind,
-  body,
-  broken,
-  setting_in,
-  setting_record_refusal,
-  points_refusal,
-  setting_turn,
-  points_turn,
-  word_turn,
-  missing,
-  points_come,
-  word_comes,
-  whole,
-  turn,
-}
+use Rattle.rules.specs.Patch.{Held, nothing, set, ready, Turn, kind, body, broken, setting_in, setting_record_refusal, points_refusal, setting_turn, points_turn, word_turn, missing, points_come, word_comes, whole, turn}
 use Rattle.rules.proofs.Tests.{both, and, either}
 use Rattle.kinds.specs.Holding.{possible}
 use Rattle.kinds.specs.Did.{told_turn}
@@ -72,9 +51,8 @@ module _ (i : ℕ) (held : Held) (b : List ℕ) where
     pub turn_broken : broken b ≡ true → told_turn held i 0 10 false ≡ turn i held b
     turn_broken w = sym (some ∙ rw w)
 
-    module _ (w : broken b ≡ false) {j : ℕ} (e : j ≡ get_or (pairs b) 1 0) where
+    module _ (w : broken b ≡ false) {j : ℕ} (e : j ≡ kind b) where
       by_kind : whole i j held (body b) ≡ turn i held b
-      unfolding kind
       by_kind = sym (some ∙ rw (w, e))
 
       pub turn_setting : j ≡ 1 → setting_turn i (body b) ≡ turn i held b

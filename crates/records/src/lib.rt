@@ -7,12 +7,20 @@ ghost use Rattle.kinds.specs.Holding.{held_of, Sound};
 ghost use Rattle.kinds.specs.Did.{Did};
 ghost use Rattle.records.specs.Stepped.{holding, Stepped};
 
+use bodies::Room;
+use causes::Refusal;
+use kinds::points::take_points;
+use kinds::settings::take_setting;
+use kinds::{Stock, Turned, told};
+use parsing::{POINTS, Record, SETTING, WORD};
+use words::take_word;
+
 // How many turns were taken, and what is held after them.
 // Nobody but this crate makes or changes one: a number is counted on by step alone.
 #[derive(Clone, Copy)]
 pub struct Held {
     turns: u64,
-    stock: kinds::Stock,
+    stock: Stock,
 }
 
 // What comes of a record: what is held then, how many bytes were written, and whether the program goes on.
@@ -29,7 +37,7 @@ pub fn start() -> Held
 {
     Held {
         turns: 0,
-        stock: kinds::without_setting(),
+        stock: Stock::Nothing,
     }
 }
 
@@ -41,62 +49,41 @@ pub fn is_full(held: Held) -> bool
 }
 
 // The record with this number, of which the input has these bytes.
-fn by_kind(
-    stock: kinds::Stock,
-    number: u64,
-    bytes: &[u8],
-    list: &mut [u16; 1536],
-    curve: &mut [u16; 6400],
-    work: &mut [u16; 24000],
-    out: &mut [u8],
-) -> kinds::Turned
+fn by_kind(stock: Stock, number: u64, bytes: &[u8], room: &mut Room, out: &mut [u8]) -> Turned
     requires { Sound stock × (length bytes.now ≤ 132) × (16384 ≤ length out.old) }
     ensures { Did (turn number (held_of stock) bytes.now) out.old out.new result }
 {
-    if bytes.len() == 0 {
-        return kinds::Turned {
+    if bytes.is_empty() {
+        return Turned {
             stock,
             wrote: 0,
             more: false,
         };
     }
     if parsing::is_broken(bytes) {
-        return kinds::told(stock, number, 0, 10, false, out);
+        return told(stock, number, 0, Err(Refusal::BrokenRecord), false, out);
     }
-    let kind = parsing::pair(bytes, 1);
-    if kind == 1 {
-        return kinds::settings::take_setting(number, bytes, out);
+    let given = Record { bytes };
+    match given.kind() {
+        SETTING => take_setting(number, given, out),
+        POINTS => take_points(stock, number, given, out),
+        WORD => take_word(stock, number, given, room, out),
+        kind => told(stock, number, kind, Err(Refusal::OtherKind), true, out),
     }
-    if kind == 2 {
-        return kinds::points::take_points(stock, number, bytes, out);
-    }
-    if kind == 3 {
-        return words::take_word(stock, number, bytes, list, curve, work, out);
-    }
-    kinds::told(stock, number, kind, 11, true, out)
 }
 
 // The next record, of which the input has these bytes: its lines are written at the front of out.
-// list, curve and work are room in which a word is read. What they held before does not count, and nothing is said of what they hold then.
-pub fn step(
-    held: Held,
-    bytes: &[u8],
-    list: &mut [u16; 1536],
-    curve: &mut [u16; 6400],
-    work: &mut [u16; 24000],
-    out: &mut [u8],
-) -> Done
+// A word is read in the room: what that held before does not count, and nothing is said of what it holds then.
+pub fn step(held: Held, bytes: &[u8], room: &mut Room, out: &mut [u8]) -> Done
     requires { Sound held.stock × (held.turns + 1 < 2 ^ 64) × (length bytes.now ≤ 132) × (16384 ≤ length out.old) }
     ensures { Stepped held bytes.now out.old out.new result }
 {
-    let stock = held.stock;
-    let number = held.turns + 1;
-    let turned = by_kind(stock, number, bytes, list, curve, work, out);
-    let left = turned.stock;
+    let turns = held.turns + 1;
+    let turned = by_kind(held.stock, turns, bytes, room, out);
     Done {
         held: Held {
-            turns: number,
-            stock: left,
+            turns,
+            stock: turned.stock,
         },
         wrote: turned.wrote,
         more: turned.more,

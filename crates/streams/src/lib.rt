@@ -1,36 +1,22 @@
 // Standard input and output with nothing lost: each byte is moved, or a call failed; then the caller learns it, and standard error gets the caller's words and the system's reason.
 #![tactic(auto)]
 
-ghost use Rattle.std.specs.Prelude.{◌≤◌, length};
+ghost use Rattle.std.specs.Prelude.{◌<◌, ◌≤◌, length, IfOk, MatchResult};
 
 use std::fs::{File, OpenOptions};
 use std::io::{Error, ErrorKind, Read, Write};
 use std::time::Duration;
 use std::{fs, io, thread};
 
-// What came of reading: how many bytes, and whether there are no more because a read failed. Otherwise fewer than there are places mean that the input ended.
-#[derive(Clone, Copy)]
-pub struct Got {
+// A read or a write failed after so many bytes; standard error was told.
+#[derive(Clone, Copy, Debug, PartialEq, Eq)]
+pub struct Failed {
     pub count: usize,
-    pub failed: bool,
 }
 
-// Waits for a thousandth of a second.
-fn pause(rt: &HostRuntime) {
-    thread::sleep(rt, Duration::from_millis(1));
-}
-
-// After a call that failed: whether to try it again, since a signal came between or the other end was not ready. In the second case it waits first.
-fn again(rt: &HostRuntime, error: &Error) -> bool {
-    match error.kind() {
-        ErrorKind::WouldBlock => {
-            pause(rt);
-            true
-        }
-        ErrorKind::Interrupted => true,
-        _ => false,
-    }
-}
+// One call failed, and standard error was told.
+#[derive(Clone, Copy)]
+struct Told;
 
 // The caller's words and the system's reason, as a line on standard error.
 fn tell(rt: &HostRuntime, words: &[u8], error: &Error) {
@@ -44,93 +30,78 @@ fn tell(rt: &HostRuntime, words: &[u8], error: &Error) {
     let _ = to.write_all(b"\n");
 }
 
-// One read that is answered: none came where the input ended or the read failed.
-fn read_some(rt: &HostRuntime, part: &mut [u8], words: &[u8]) -> Got
-    ensures { result.count ≤ length part.old }
+// After a call that failed: it is made again where a signal came between, and after a thousandth of a second where the other end was not ready. Anything else is told.
+fn retry(rt: &HostRuntime, words: &[u8], error: &Error) -> Result<(), Told> {
+    match error.kind() {
+        ErrorKind::Interrupted => Ok(()),
+        ErrorKind::WouldBlock => {
+            thread::sleep(rt, Duration::from_millis(1));
+            Ok(())
+        }
+        _ => {
+            tell(rt, words, error);
+            Err(Told)
+        }
+    }
+}
+
+// One read that is answered: how many bytes came, none where the input ended.
+fn read_some(rt: &HostRuntime, part: &mut [u8], words: &[u8]) -> Result<usize, Told>
+    ensures { IfOk result (λ count. count ≤ length part.old) }
 {
-    let mut tries: u64 = 0;
-    while tries < u64::MAX {
+    for _ in 0..u64::MAX {
         match rt.stdin().read(part) {
-            Ok(count) => {
-                return Got {
-                    count,
-                    failed: false,
-                };
-            }
-            Err(error) => {
-                if !again(rt, &error) {
-                    tell(rt, words, &error);
-                    break;
-                }
-            }
+            Ok(count) => return Ok(count),
+            Err(error) => retry(rt, words, &error)?,
         }
-        tries += 1;
     }
-    Got {
-        count: 0,
-        failed: true,
-    }
+    Err(Told)
 }
 
-// Reads until all places hold a byte, the input ends or a read fails.
-pub fn fill(rt: &HostRuntime, all: &mut [u8], words: &[u8]) -> Got
-    ensures { result.count ≤ length all.old }
+// Reads until all places hold a byte or the input ends: how many bytes came, or how many before a read failed.
+pub fn fill(rt: &HostRuntime, all: &mut [u8], words: &[u8]) -> Result<usize, Failed>
+    ensures { MatchResult result (λ count. count ≤ length all.old) (λ failed. failed.count ≤ length all.old) }
 {
-    let end = all.len();
-    let mut at: usize = 0;
-    while at < end {
-        let got = read_some(rt, &mut all[at..end], words);
-        if got.count == 0 {
-            return Got {
-                count: at,
-                failed: got.failed,
-            };
+    let mut at = 0;
+    while at < all.len() {
+        let Ok(came) = read_some(rt, &mut all[at..], words) else {
+            return Err(Failed { count: at });
+        };
+        if came == 0 {
+            break;
         }
-        at += got.count;
+        at += came;
     }
-    Got {
-        count: at,
-        failed: false,
-    }
+    Ok(at)
 }
 
-// One write that is answered: how many bytes it took, none where it failed.
-fn write_some(rt: &HostRuntime, part: &[u8], words: &[u8]) -> usize
-    ensures { result ≤ length part.now }
+// One write that is answered: how many bytes it took.
+fn write_some(rt: &HostRuntime, part: &[u8], words: &[u8]) -> Result<usize, Told>
+    ensures { IfOk result (λ count. (0 < count) × (count ≤ length part.now)) }
 {
-    let mut tries: u64 = 0;
-    while tries < u64::MAX {
+    for _ in 0..u64::MAX {
         match rt.stdout().write(part) {
-            Ok(count) => {
-                if count == 0 {
-                    tell(rt, words, &Error::from(ErrorKind::WriteZero));
-                }
-                return count;
+            Ok(0) => {
+                tell(rt, words, &ErrorKind::WriteZero.into());
+                break;
             }
-            Err(error) => {
-                if !again(rt, &error) {
-                    tell(rt, words, &error);
-                    break;
-                }
-            }
+            Ok(count) => return Ok(count),
+            Err(error) => retry(rt, words, &error)?,
         }
-        tries += 1;
     }
-    0
+    Err(Told)
 }
 
-// Writes all of it, or stops at the first write that fails: what was written is then the front of it.
-pub fn put(rt: &HostRuntime, all: &[u8], words: &[u8]) -> bool {
-    let end = all.len();
-    let mut at: usize = 0;
-    while at < end {
-        let count = write_some(rt, &all[at..end], words);
-        if count == 0 {
-            return false;
-        }
-        at += count;
+// Writes all of it, or stops at the first write that fails: what was written is then the front of it, so many bytes long.
+pub fn put(rt: &HostRuntime, all: &[u8], words: &[u8]) -> Result<(), Failed> {
+    let mut at = 0;
+    while at < all.len() {
+        let Ok(took) = write_some(rt, &all[at..], words) else {
+            return Err(Failed { count: at });
+        };
+        at += took;
     }
-    true
+    Ok(())
 }
 
 // Standard output as a file of the system.
@@ -138,10 +109,10 @@ const OUTPUT: &str = "/proc/self/fd/1";
 
 // Standard output opened once more: to go on behind its end, or where that may not be, to read it.
 fn opened(rt: &HostRuntime) -> io::Result<File> {
-    match OpenOptions::new().append(true).open(rt, OUTPUT) {
-        Ok(file) => Ok(file),
-        Err(_) => File::open(rt, OUTPUT),
-    }
+    OpenOptions::new()
+        .append(true)
+        .open(rt, OUTPUT)
+        .or_else(|_| File::open(rt, OUTPUT))
 }
 
 // What the system answers where no file stands behind a descriptor: EBADF.
@@ -149,10 +120,10 @@ const CLOSED: i32 = 9;
 
 // Has the system store what was written where standard output is a file. One that cannot be opened once more is passed over; that it is closed shows at a write of nothing.
 fn stored(rt: &HostRuntime) -> io::Result<()> {
-    if let Err(error) = rt.stdout().write(b"") {
-        if error.raw_os_error() == Some(CLOSED) {
-            return Err(error);
-        }
+    if let Err(error) = rt.stdout().write(b"")
+        && error.raw_os_error() == Some(CLOSED)
+    {
+        return Err(error);
     }
     let Ok(about) = fs::metadata(rt, OUTPUT) else {
         return Ok(());
@@ -170,9 +141,7 @@ fn stored(rt: &HostRuntime) -> io::Result<()> {
 pub fn finish(rt: &HostRuntime, words: &[u8]) {
     if let Err(error) = stored(rt) {
         match error.kind() {
-            ErrorKind::Interrupted => {}
-            ErrorKind::InvalidInput => {}
-            ErrorKind::Unsupported => {}
+            ErrorKind::Interrupted | ErrorKind::InvalidInput | ErrorKind::Unsupported => {}
             _ => tell(rt, words, &error),
         }
     }

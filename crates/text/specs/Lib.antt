@@ -1,2 +1,3 @@
--- The definitions of the crate.
+-- The definitions of the crate, each file after those that it rests on.
 pub mod Wrote
+pub mod Lines

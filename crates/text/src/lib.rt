@@ -1,80 +1,81 @@
-// Text written into a lent buffer, at a place.
+// Lines of text, written into a lent buffer one after the other.
 #![tactic(auto)]
 
 ghost use Rattle.std.specs.Prelude.{◌≡◌, [], ◌∷◌, ◌+◌, ◌*◌, ◌<◌, ◌≤◌, length};
 ghost use Rattle.rules.specs.Patch.{digits, spaced, line};
-ghost use Rattle.text.specs.Wrote.{Wrote};
+ghost use Rattle.text.specs.Lines.{Writes};
 
-// One byte.
-pub fn put(byte: u8, out: &mut [u8], at: usize) -> usize
-    requires { at < length out.old }
-    ensures { Wrote (byte ∷ []) at out.old out.new result }
-{
-    out[at] = byte;
-    at + 1
+use itoa::Buffer;
+
+// A lent buffer, and how many bytes at its front are written: the next one goes behind them.
+#[derive(Drop)]
+pub struct Lines<'a> {
+    pub out: &'a mut [u8],
+    pub len: usize,
 }
 
-// The digit of a number below 10.
-fn digit(n: u64) -> u8
-    requires { n < 10 }
-    ensures { result ≡ 48 + n }
-{
-    48 + n as u8
-}
-
-// A number in decimal, with no zero in front.
-pub fn number(n: u64, out: &mut [u8], at: usize) -> usize
-    requires { at + length (digits n) ≤ length out.old }
-    ensures { Wrote (digits n) at out.old out.new result }
-{
-    if n < 10 {
-        put(digit(n), out, at)
-    } else {
-        let last = number(n / 10, out, at);
-        put(digit(n % 10), out, last)
+impl<'a> Lines<'a> {
+    // Nothing is written yet.
+    pub fn new(out: &'a mut [u8]) -> Lines<'a>
+        ensures same { result.out.ghost_name ≡ out.entry.ghost_name }
+        ensures out { result.out.now ≡ out.old }
+        ensures none { result.len ≡ 0 }
+    {
+        Lines { out, len: 0 }
     }
-}
 
-// A field, as wide as a number is taken.
-fn wide(x: u16) -> u64
-    ensures { (result ≡ x) × (result < 65536) }
-{
-    x as u64
-}
-
-// The fields of a line, each with a space before it.
-pub fn numbers(fields: &[u16], out: &mut [u8], at: usize) -> usize
-    requires { at + length fields.now * 6 ≤ length out.old }
-    ensures { (result ≤ at + length fields.now * 6) × Wrote (spaced fields.now) at out.old out.new result }
-{
-    let mut i: usize = 0;
-    let mut to = at;
-    while i < fields.len() {
-        to = put(32, out, to);
-        to = number(wide(fields[i]), out, to);
-        i += 1;
+    // One byte.
+    pub fn put(&mut self, byte: u8)
+        requires { self.old.len < length self.old.out.now }
+        ensures { Writes (byte ∷ []) self.old self.new }
+    {
+        self.out[self.len] = byte;
+        self.len += 1;
     }
-    to
-}
 
-// A line whose first field is a number.
-pub fn numbered_line(first: u64, fields: &[u16], out: &mut [u8], at: usize) -> usize
-    requires { at + 21 + length fields.now * 6 ≤ length out.old }
-    ensures { (result ≤ at + 21 + length fields.now * 6)
-        × Wrote (line (digits first) fields.now) at out.old out.new result }
-{
-    let a = number(first, out, at);
-    let b = numbers(fields, out, a);
-    put(10, out, b)
-}
+    // A number in decimal, with no zero in front.
+    pub fn number(&mut self, n: u64)
+        requires { self.old.len + length (digits n) ≤ length self.old.out.now }
+        ensures { Writes (digits n) self.old self.new }
+    {
+        let mut buffer = Buffer::new();
+        let text = buffer.format(n).as_bytes();
+        let end = self.len + text.len();
+        self.out[self.len..end].copy_from_slice(text);
+        self.len = end;
+    }
 
-// A line that begins with "+".
-pub fn plus_line(fields: &[u16], out: &mut [u8], at: usize) -> usize
-    requires { at + 2 + length fields.now * 6 ≤ length out.old }
-    ensures { (result ≤ at + 2 + length fields.now * 6)
-        × Wrote (line (43 ∷ []) fields.now) at out.old out.new result }
-{
-    let a = put(43, out, at);
-    let b = numbers(fields, out, a);
-    put(10, out, b)
+    // The fields of a line, each with a space before it.
+    pub fn numbers(&mut self, fields: &[u16])
+        requires { self.old.len + length fields.now * 6 ≤ length self.old.out.now }
+        ensures { (self.new.len ≤ self.old.len + length fields.now * 6)
+            × Writes (spaced fields.now) self.old self.new }
+    {
+        for &x in fields {
+            self.put(b' ');
+            self.number(u64::from(x));
+        }
+    }
+
+    // A line whose first field is a number.
+    pub fn numbered_line(&mut self, first: u64, fields: &[u16])
+        requires { self.old.len + 21 + length fields.now * 6 ≤ length self.old.out.now }
+        ensures { (self.new.len ≤ self.old.len + 21 + length fields.now * 6)
+            × Writes (line (digits first) fields.now) self.old self.new }
+    {
+        self.number(first);
+        self.numbers(fields);
+        self.put(b'\n');
+    }
+
+    // A line that begins with "+".
+    pub fn plus_line(&mut self, fields: &[u16])
+        requires { self.old.len + 2 + length fields.now * 6 ≤ length self.old.out.now }
+        ensures { (self.new.len ≤ self.old.len + 2 + length fields.now * 6)
+            × Writes (line (43 ∷ []) fields.now) self.old self.new }
+    {
+        self.put(b'+');
+        self.numbers(fields);
+        self.put(b'\n');
+    }
 }

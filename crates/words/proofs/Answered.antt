@@ -1,75 +1,69 @@
 -- What a word does, from what reading it gave.
-use mathlib.Core.Path.{◌≡◌, refl, sym, ap, ◌∙◌, subst}
+use mathlib.Core.Path.{◌≡◌, refl, sym, ap, ◌∙◌}
 use mathlib.Core.Bool.{true}
+use mathlib.Core.Logic.{◌⊎◌, inl, inr}
 use mathlib.Core.List.{List, [], ◌∷◌, ◌++◌}
 use Prim.Native.Nat.{ℕ, ◌≤◌}
-use lib.Dec.{T}
 use lib.ListN.{length, take}
 use borrow.Author.Tests.{eq-eqb, ne_eqb}
-use Rattle.rules.specs.Setting.{Setting}
+use Rattle.rules.specs.Setting.{Setting as Rule}
 use Rattle.rules.specs.Search.{rows}
-use Rattle.rules.specs.Patch.{Held, ready, digits, line, setting_record_refusal, points_refusal, word_refusal, word_turn, missing, word_comes}
-use Rattle.text.specs.Wrote.{Wrote}
-use Rattle.text.proofs.Written.{wrote_then, wrote_as}
+use Rattle.rules.specs.Patch.{digits, line, setting_record_refusal, points_refusal, word_refusal, word_turn, missing, word_comes}
+use Rattle.setting.specs.declared.Setting.{Setting}
+use Rattle.text.specs.declared.Lines.{Lines}
+use Rattle.text.specs.Lines.{Writes}
+use Rattle.text.proofs.Written.{writes_then, wrote_first, wrote_as}
 use Rattle.bodies.specs.Setting.{setting_of}
 use Rattle.bodies.specs.Heard.{Heard, messages_of}
+use Rattle.bodies.proofs.Refused.{points_given}
 use Rattle.bodies.proofs.Lines.{plus_lines}
 use Rattle.kinds.specs.declared.Stock.{Stock}
-use Rattle.kinds.specs.declared.Stage.TheVariants.{Nothing, Set, Ready}
-use Rattle.kinds.specs.Holding.{held_of, stock, possible, Sound}
+use Rattle.kinds.specs.declared.Stock.TheVariants.{Nothing, Set, Ready}
+use Rattle.kinds.specs.Holding.{held_of, Sound}
 use Rattle.kinds.specs.Did.{Did, told_turn}
 use Rattle.kinds.proofs.Holding.{ready_accepted}
 
-pub heard_as : {S : Setting} {points word word' list : List ℕ} {r f : ℕ} → Heard S points word list r f → word ≡ word' → Heard S points word' list r f
+pub heard_as : {S : Rule} {points word word' list : List ℕ} {r f : ℕ} → Heard S points word list r f → word ≡ word' → Heard S points word' list r f
 heard_as h q = rw q at h
 
-module _ (i : ℕ) {S : Setting} {points word list : List ℕ} {r found : ℕ} (h : Heard S points word list r found) where
-  pub word_refused : ¬ (r ≡ 0) → {held : Held} → held ≡ ready S points → told_turn held i 3 r true ≡ word_turn i S points word
+module _ (i : ℕ) (s : Setting) (points : List ℕ) {word list : List ℕ} {r found : ℕ}
+    (h : Heard (setting_of s) (take s.n points) word list r found) where
+  pub word_refused : ¬ (r ≡ 0) → told_turn (held_of (Ready s points)) i 3 r true ≡ word_turn i (setting_of s) (take s.n points) word
   unfolding word_turn
-  word_refused n e = rw (← h.is_refusal, ne_eqb r 0 n, e)
+  word_refused n = rw (← h.is_refusal, ne_eqb r 0 n)
 
-  module _ (z : r ≡ 0) {d e f : List ℕ} {a w : ℕ} (first : Wrote (line (digits i) (3 ∷ 0 ∷ found ∷ [])) 0 d e a)
-      (rest : Wrote (plus_lines (rows S.k found list)) a e f w) where
-    text_is : Wrote (line (digits i) (3 ∷ 0 ∷ length (messages_of S points word) ∷ []) ++ plus_lines (messages_of S points word)) 0 d f w
-    text_is = let l = h.accepted z in
-        wrote_as (wrote_then first rest) (ap (λ n. line (digits i) (3 ∷ 0 ∷ n ∷ []) ++ plus_lines (rows S.k found list)) l.count
-        ∙ ap (λ ms. line (digits i) (3 ∷ 0 ∷ length (messages_of S points word) ∷ []) ++ plus_lines ms) l.rows_are)
+  module _ (z : r ≡ 0) {d : List ℕ} {l m n : Lines} (o : l.out.now ≡ d) (none : l.len ≡ 0) (first : Writes (line (digits i) (3 ∷ 0 ∷ found ∷ [])) l m)
+      (rest : Writes (plus_lines (rows s.k found list)) m n) where
+    abbrev messages : List (List ℕ)
+    messages = messages_of (setting_of s) (take s.n points) word
 
-    pub word_heard : {h : Stock} → h ≡ stock (ready S points) → w ≤ length d → Did (word_turn i S points word) d f (record { stock = h; wrote = w; more = true })
+    pub word_heard : Sound (Ready s points) → n.len ≤ length d →
+        Did (word_turn i (setting_of s) (take s.n points) word) d n.out.now (record { stock = Ready s points; wrote = n.len; more = true })
     unfolding word_turn
-    word_heard k l = record {
-      held = k;
-      text = rw (eq-eqb (word_refusal S word) 0 (sym h.is_refusal ∙ z)) text_is;
+    word_heard sound w = let a = h.accepted z in record {
+      held = sound.clean;
+      text = rw (eq-eqb (word_refusal (setting_of s) word) 0 (sym h.is_refusal ∙ z))
+          (wrote_as (wrote_first o none (writes_then first rest))
+          (ap (λ k. line (digits i) (3 ∷ 0 ∷ k ∷ []) ++ plus_lines (rows s.k found list)) a.count
+          ∙ ap (λ ms. line (digits i) (3 ∷ 0 ∷ length messages ∷ []) ++ plus_lines ms) a.rows_are));
       more = refl;
-      within = l;
+      within = w;
     }
 
+pub held_accepted : (s : Setting) (points : List ℕ) → Sound (Ready s points) → (setting_record_refusal (setting_of s) ≡ 0) × (points_refusal (setting_of s) (take s.n points) ≡ 0)
+held_accepted s points h = ready_accepted (setting_of s) (take s.n points) h.accepted
+
+-- as many points are held as the setting has
+pub points_held : (s : Setting) (points : List ℕ) → Sound (Ready s points) → s.n ≡ length (take s.n points)
+points_held s points h = sym (points_given (setting_of s) (take s.n points) (held_accepted s points h).1).points_long
+
 -- by how much is held
-module _ (h : Stock) (i : ℕ) (b : List ℕ) where
-  pub word_nothing : h.stage ≡ Nothing → told_turn (held_of h) i 3 12 true ≡ word_comes i (held_of h) b
+module _ (i : ℕ) (b : List ℕ) {h : Stock} where
+  pub word_missing : (h ≡ Nothing) ⊎ ((s : Setting) × (h ≡ Set s)) → told_turn (held_of h) i 3 12 true ≡ word_comes i (held_of h) b
   unfolding word_comes missing
-  word_nothing e = rw e
+  word_missing (inl e) = rw e
+  word_missing (inr e) = rw e.1
 
-  pub word_set : h.stage ≡ Set → told_turn (held_of h) i 3 12 true ≡ word_comes i (held_of h) b
-  unfolding word_comes missing
-  word_set e = rw e
-
-  pub word_ready : h.stage ≡ Ready → word_turn i (setting_of h.setting) (take h.setting.n h.points) b ≡ word_comes i (held_of h) b
+  pub word_ready : {s : Setting} {points : List ℕ} → h ≡ Ready s points → word_turn i (setting_of s) (take s.n points) b ≡ word_comes i (held_of h) b
   unfolding word_comes
   word_ready e = rw e
-
-module _ (h : Stock) (e : h.stage ≡ Ready) where
-  abbrev S : Setting
-  S = setting_of h.setting
-
-  abbrev points : List ℕ
-  points = take h.setting.n h.points
-
-  pub held_ready : held_of h ≡ ready S points
-  held_ready = rw e
-
-  pub accepted_ready : Sound h → (setting_record_refusal S ≡ 0) × (points_refusal S points ≡ 0)
-  accepted_ready s = ready_accepted S points (subst (λ held. T (possible held)) held_ready s.accepted)
-
-  pub clean_ready : Sound h → h ≡ stock (ready S points)
-  clean_ready s = s.clean ∙ ap stock held_ready

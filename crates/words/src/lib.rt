@@ -1,62 +1,66 @@
 // A record of kind 3: the word is read with the setting and the points that are held.
 #![tactic(auto)]
 
-ghost use Rattle.std.specs.Prelude.{◌≡◌, ◌≤◌, length};
-ghost use Rattle.rules.specs.Patch.{body, word_comes};
-ghost use Rattle.kinds.specs.declared.Stage.TheVariants.{Ready};
+ghost use Rattle.std.specs.Prelude.{◌≤◌, length, take};
+ghost use Rattle.rules.specs.Patch.{body, word_turn, word_comes};
+ghost use Rattle.bodies.specs.Setting.{setting_of};
+ghost use Rattle.kinds.specs.declared.Stock.TheVariants.{Ready};
 ghost use Rattle.kinds.specs.Holding.{held_of, Sound};
 ghost use Rattle.kinds.specs.Did.{Did};
 
-// A word for the setting and the points that are held. The three buffers before out are room to read it in.
+use bodies::Room;
+use causes::Refusal;
+use kinds::{Stock, Turned, told};
+use parsing::{Record, WORD};
+use setting::Setting;
+use text::Lines;
+
+// A word for this setting and these points, read in the room.
 fn read_word(
-    stock: kinds::Stock,
+    setting: Setting,
+    points: [u16; 64],
     number: u64,
-    bytes: &[u8],
-    list: &mut [u16; 1536],
-    curve: &mut [u16; 6400],
-    work: &mut [u16; 24000],
+    given: Record<'_>,
+    room: &mut Room,
     out: &mut [u8],
-) -> kinds::Turned
-    requires { Sound stock × (stock.stage ≡ Ready) × (4 ≤ length bytes.now) × (length bytes.now ≤ 132) × (16384 ≤ length out.old) }
-    ensures { Did (word_comes number (held_of stock) (body bytes.now)) out.old out.new result }
+) -> Turned
+    requires { Sound (Ready setting points) × (16384 ≤ length out.old) }
+    ensures { Did (word_turn number (setting_of setting) (take setting.n points) (body given.entry.bytes.now)) out.old out.new result }
 {
-    let setting = stock.setting;
-    let points = stock.points;
-    let mut word = [0u16; 64];
-    let m = parsing::read_body(bytes, &mut word);
-    let reply = bodies::read_held(setting, &points, &word, m, list, curve, work);
-    let refusal = reply.refusal;
-    if refusal != 0 {
-        return kinds::told(stock, number, 3, refusal, true, out);
-    }
-    let found = reply.found;
-    let fields = [3, 0, found];
-    let at = text::numbered_line(number, &fields, out, 0);
-    let wrote = bodies::candidates(list, setting.k as usize, found as usize, out, at);
-    kinds::Turned {
-        stock,
-        wrote,
-        more: true,
+    let stock = Stock::Ready(setting, points);
+    let mut word = [0; 64];
+    let m = given.read_body(&mut word);
+    match bodies::read_held(setting, &points[..setting.n], &word[..m], room) {
+        Ok(found) => {
+            let fields = [WORD, 0, found as u16];
+            let mut lines = Lines::new(out);
+            lines.numbered_line(number, &fields);
+            bodies::candidates(&room.list, setting.k, found, &mut lines);
+            Turned {
+                stock,
+                wrote: lines.len,
+                more: true,
+            }
+        }
+        Err(cause) => told(stock, number, WORD, Err(cause), true, out),
     }
 }
 
 // 12 where no points are held, before the body is read.
 pub fn take_word(
-    stock: kinds::Stock,
+    stock: Stock,
     number: u64,
-    bytes: &[u8],
-    list: &mut [u16; 1536],
-    curve: &mut [u16; 6400],
-    work: &mut [u16; 24000],
+    given: Record<'_>,
+    room: &mut Room,
     out: &mut [u8],
-) -> kinds::Turned
-    requires { Sound stock × (4 ≤ length bytes.now) × (length bytes.now ≤ 132) × (16384 ≤ length out.old) }
-    ensures { Did (word_comes number (held_of stock) (body bytes.now)) out.old out.new result }
+) -> Turned
+    requires { Sound stock × (16384 ≤ length out.old) }
+    ensures { Did (word_comes number (held_of stock) (body given.entry.bytes.now)) out.old out.new result }
 {
-    let stage = stock.stage;
-    match stage {
-        kinds::Stage::Nothing => kinds::told(stock, number, 3, 12, true, out),
-        kinds::Stage::Set => kinds::told(stock, number, 3, 12, true, out),
-        kinds::Stage::Ready => read_word(stock, number, bytes, list, curve, work, out),
+    match stock {
+        Stock::Nothing | Stock::Set(_) => {
+            told(stock, number, WORD, Err(Refusal::NothingHeld), true, out)
+        }
+        Stock::Ready(setting, points) => read_word(setting, points, number, given, room, out),
     }
 }

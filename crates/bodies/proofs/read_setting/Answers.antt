@@ -4,6 +4,7 @@ use mathlib.Core.List.{List}
 use Prim.Native.Nat.{ℕ}
 use lib.ListN.{get_or}
 use lib.Seq.{get_or-drop}
+use Rattle.std.proofs.Common.{rules}
 use Rattle.rules.specs.Patch.{pairs, body, setting_in}
 use Rattle.bodies.proofs.read_setting.Goals as goal
 
@@ -13,4 +14,4 @@ unfolding setting_in body
 setting_read b u v w x y = simp (get_or-drop, u, v, w, x, y)
 
 pub returns : goal.returns
-returns c = setting_read _ c.pair-p.ensures c.pair-n.ensures c.pair-k.ensures c.pair-s.ensures c.pair-tau.ensures
+returns c = setting_read _ (search rules) (search rules) (search rules) (search rules) (search rules)

@@ -1,13 +1,10 @@
--- fits: the three tests, in their order.
-use mathlib.Core.Path.{refl}
-use Rattle.parsing.proofs.Shape.{too_short, too_long, even_fits}
+-- fits: between the bounds the last test decides.
+use Rattle.std.proofs.Common.{◌∙◌, rules}
+use Rattle.parsing.proofs.Shape.{outside, even_fits}
 use Rattle.parsing.proofs.fits.Goals as goal
 
-pub returns-then-n-lt2 : goal.returns-then-n-lt2
-returns-then-n-lt2 c = too_short _ c.if-n-lt2.true
+pub returns-then-contains : goal.returns-then-contains
+returns-then-contains c = even_fits c.args.n (search rules) (search rules)
 
-pub returns-then-n-gt130 : goal.returns-then-n-gt130
-returns-then-n-gt130 c = too_long _ c.if-n-lt2.false c.if-n-gt130.true
-
-pub returns : goal.returns
-returns c = even_fits _ c.if-n-lt2.false c.if-n-gt130.false refl
+pub returns-else-contains : goal.returns-else-contains
+returns-else-contains c = c.if-contains.false ∙ outside c.args.n (search rules)

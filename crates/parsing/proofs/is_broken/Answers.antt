@@ -1,31 +1,22 @@
 -- is_broken: the causes of refusal 10, in their order.
-use Rattle.std.proofs.Common.{◌≡◌, refl, sym, ◌∙◌, true, arith}
-use Rattle.rules.specs.Patch.{length_fits}
+use Rattle.std.proofs.Common.{◌∙◌, arith}
+use borrow.Author.Tests.{lt-ltb, ne_eqb}
 use Rattle.parsing.proofs.Shape.{fits_bounds, broken_unfit, broken_cut, broken_setting, not_broken}
 use Rattle.parsing.proofs.is_broken.Goals as goal
 
-pub returns-then-not-fits : goal.returns-then-not-fits
-returns-then-not-fits c = let n = c.stated_length-n in broken_unfit _ n.result n.ensures (sym c.if-not-fits.true ∙ c.fits.ensures)
-
-pub returns-then-bytes-n : goal.returns-then-bytes-n
-returns-then-bytes-n c =
-    let n = c.stated_length-n in
-    broken_cut _ n.result n.ensures (sym c.if-not-fits.false ∙ c.fits.ensures) (omega arith)
+pub returns-in_default : goal.returns-in_default
+returns-in_default c = broken_unfit _ c.in_default.ensures
 
 pub pair-requires : goal.pair-requires
-pair-requires c =
-    let n = c.stated_length-n in
-    let f : true ≡ length_fits n.result = sym c.if-not-fits.false ∙ c.fits.ensures in
-    omega (arith, (fits_bounds n.result (sym f)).0)
+pair-requires c = omega (arith, fits_bounds c.in-Some.n c.in-Some.ensures.1)
 
-pub returns-then-pair-eq1 : goal.returns-then-pair-eq1
-returns-then-pair-eq1 c =
-    let n = c.stated_length-n in
-    broken_setting _ n.result n.ensures (sym c.if-not-fits.false ∙ c.fits.ensures) (omega arith)
-    c.pair.result c.pair.ensures c.if-pair-eq1.true refl
+pub returns-then-bytes-from : goal.returns-then-bytes-from
+returns-then-bytes-from c = let h = c.in-Some.ensures in lt-ltb _ _ c.if-bytes-from.true ∙ broken_cut _ h.0 h.1 (omega arith)
 
-pub returns : goal.returns
-returns c =
-    let n = c.stated_length-n in
-    not_broken _ n.result n.ensures (sym c.if-not-fits.false ∙ c.fits.ensures) (omega arith) c.pair.result
-    c.pair.ensures c.if-pair-eq1.false
+pub returns-then-pair-eq-SETTING : goal.returns-then-pair-eq-SETTING
+returns-then-pair-eq-SETTING c =
+    let h = c.in-Some.ensures in broken_setting _ h.0 h.1 (omega arith) c.pair.ensures c.if-pair-eq-SETTING.true
+
+pub returns-else-pair-eq-SETTING : goal.returns-else-pair-eq-SETTING
+returns-else-pair-eq-SETTING c =
+    let h = c.in-Some.ensures in ne_eqb _ _ c.if-pair-eq-SETTING.false ∙ not_broken _ h.0 h.1 (omega arith) c.pair.ensures c.if-pair-eq-SETTING.false

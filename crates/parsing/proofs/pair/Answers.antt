@@ -4,4 +4,4 @@ use Rattle.parsing.proofs.Pairs.{pair_at}
 use Rattle.parsing.proofs.pair.Goals as goal
 
 pub returns : goal.returns
-returns c = c.joined.ensures ∙ pair_at c.args.bytes.now c.args.j c.requires
+returns c = c.from_le_bytes.ensures ∙ pair_at c.args.bytes.now c.args.j c.requires

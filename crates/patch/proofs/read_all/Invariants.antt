@@ -7,9 +7,12 @@ use Rattle.patch.specs.declared.Left.{Left}
 use Rattle.patch.specs.Completed.{Completed}
 use Rattle.patch.proofs.read_all.Given as goal
 
-abbrev pub invariant-loop-list : goal.invariant-loop-list
-invariant-loop-list l =
-    Sound l.held.stock × (l.held.turns < 2 ^ 64) × ((last : Left) → Completed l.held last → Completed (holding 0 nothing) last)
+abbrev pub invariant-loop-held : goal.invariant-loop-held
+invariant-loop-held l = record {
+  sound : Sound l.held.stock;
+  counted : l.held.turns < 2 ^ 64;
+  completes : (last : Left) → Completed l.held last → Completed (holding 0 nothing) last;
+}
 
-abbrev pub decreases-loop-list : goal.decreases-loop-list
-decreases-loop-list l = 2 ^ 64 - l.held.turns
+abbrev pub decreases-loop-held : goal.decreases-loop-held
+decreases-loop-held l = 2 ^ 64 - l.held.turns

@@ -1,4 +1,4 @@
--- take: the call of step that took the bytes; what is written has room.
+-- take: the call of step that took the bytes.
 use mathlib.Core.Path.{refl}
 use Rattle.patch.proofs.take.Goals as goal
 

@@ -1,6 +1,8 @@
 -- start: no turn was taken, and nothing is held.
 use Rattle.std.proofs.Common.{refl}
+use Rattle.kinds.specs.Holding.{stock}
 use Rattle.records.proofs.start.Goals as goal
 
 pub returns : goal.returns
-returns c = rw c.without_setting.ensures refl
+unfolding stock
+returns c = refl

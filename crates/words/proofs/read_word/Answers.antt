@@ -1,47 +1,48 @@
 -- read_word: the line, and then a line for each reading.
-use Rattle.std.proofs.Common.{refl, ◌∙◌, arith, rules}
-use Rattle.text.proofs.Written.{wrote_len}
-use Rattle.kinds.proofs.Turns.{did_as, body_front}
+use Rattle.std.proofs.Common.{refl, ap, arith, rules, length, length-take}
+use Rattle.causes.proofs.Number.{never_zero}
+use Rattle.text.proofs.Written.{writes_room}
+use Rattle.kinds.proofs.Turns.{did_as, did_in, body_front}
 use Rattle.bodies.proofs.Lines.{lines_room}
-use Rattle.words.proofs.Answered.{heard_as, word_refused, word_heard, word_ready, held_ready, accepted_ready, clean_ready}
+use Rattle.words.proofs.Answered.{heard_as, word_refused, word_heard, held_accepted, points_held}
 use Rattle.words.proofs.read_word.Goals as goal
 
-pub read_held-reply-requires : goal.read_held-reply-requires
-read_held-reply-requires c =
-    let a = accepted_ready _ c.requires.1 c.requires.0 in
-    (a.0, a.1, search rules)
+pub slice_bounds-points-end : goal.slice_bounds-points-end
+slice_bounds-points-end c =
+    let x = c.args in omega (arith, points_held x.setting x.points c.requires.0, length-take x.setting.n x.points)
 
-pub returns-then-refusal-ne0 : goal.returns-then-refusal-ne0
-returns-then-refusal-ne0 c =
-    let h = heard_as c.read_held-reply.ensures (body_front refl c.read_body-m.ensures) in
-    let held = c.args.stock in
-    did_as c.told.ensures (word_refused _ h c.if-refusal-ne0.true (held_ready held c.requires.1) ∙ word_ready held _ _ c.requires.1)
+pub slice_bounds-read_held-end : goal.slice_bounds-read_held-end
+slice_bounds-read_held-end c = points_held c.args.setting c.args.points c.requires.0
 
-pub candidates-wrote-requires : goal.candidates-wrote-requires
-candidates-wrote-requires c =
-    let h = heard_as c.read_held-reply.ensures (body_front refl c.read_body-m.ensures) in
-    let l = h.accepted c.if-refusal-ne0.false in
-    let n = c.numbered_line-at.ensures in (
-      search (rules, l.room),
-      omega (
-        arith,
-        h.list_long,
-        l.room,
-        l.few,
-        lines_room c.read_held-reply.result.found c.args.stock.setting.k,
-        n.0,
-        wrote_len n.1,
-        c.requires,
-      ),
+pub read_held-requires : goal.read_held-requires
+read_held-requires c = held_accepted c.args.setting c.args.points c.requires.0
+
+pub overflow_cast-fields : goal.overflow_cast-fields
+overflow_cast-fields c = let h = c.in-Ok.ensures in let few = (h.accepted refl).few in search rules
+
+pub candidates-requires : goal.candidates-requires
+candidates-requires c =
+    let h = c.in-Ok.ensures in
+    let l = h.accepted refl in
+    let n = c.numbered_line.ensures in
+    let o = c.new-lines.ensures in (
+      l.room,
+      omega (arith, h.list_long, l.room, l.few, lines_room c.in-Ok.found c.args.setting.k, n.0, o.none, writes_room n.1, ap length o.out, c.requires.1),
     )
 
-pub returns : goal.returns
-returns c =
-    let h = heard_as c.read_held-reply.ensures (body_front refl c.read_body-m.ensures) in
-    let l = h.accepted c.if-refusal-ne0.false in
-    let n = c.numbered_line-at.ensures in
-    let p = c.candidates-wrote.ensures in
-    did_as
-    (word_heard _ h c.if-refusal-ne0.false n.1 p.1 (clean_ready _ c.requires.1 c.requires.0)
-    (omega (arith, h.list_long, l.room, l.few, lines_room c.read_held-reply.result.found c.args.stock.setting.k, n.0, p.0, c.requires)))
-    (word_ready _ _ _ c.requires.1)
+pub returns-in-Ok : goal.returns-in-Ok
+returns-in-Ok c =
+    let h = heard_as c.in-Ok.ensures (body_front refl c.read_body-m.ensures) in
+    let l = h.accepted refl in
+    let n = c.numbered_line.ensures in
+    let o = c.new-lines.ensures in
+    let p = c.candidates.ensures in
+    did_in
+    (word_heard _ _ _ h refl o.out o.none n.1 p.1 c.requires.0
+    (omega (arith, h.list_long, l.room, l.few, lines_room c.in-Ok.found c.args.setting.k, n.0, o.none, p.0, c.requires.1)))
+    (search rules)
+
+pub returns-in-Err : goal.returns-in-Err
+returns-in-Err c =
+    let h = heard_as c.in-Err.ensures (body_front refl c.read_body-m.ensures) in
+    did_as c.told.ensures (word_refused _ _ _ h (never_zero c.in-Err.cause))

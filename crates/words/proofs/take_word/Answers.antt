@@ -1,10 +1,13 @@
 -- take_word: 12 where no points are held, before the body is read.
 use Rattle.kinds.proofs.Turns.{did_as}
-use Rattle.words.proofs.Answered.{word_nothing, word_set}
+use Rattle.words.proofs.Answered.{word_missing, word_ready}
 use Rattle.words.proofs.take_word.Goals as goal
 
 pub returns-in-Nothing : goal.returns-in-Nothing
-returns-in-Nothing c = did_as c.told.ensures (word_nothing _ _ _ c.in-Nothing.is)
+returns-in-Nothing c = did_as c.told.ensures (word_missing _ _ c.in-Nothing.is)
 
-pub returns-in-Set : goal.returns-in-Set
-returns-in-Set c = did_as c.told-in-Set.ensures (word_set _ _ _ c.in-Set.is)
+pub read_word-requires : goal.read_word-requires
+read_word-requires c = (rw c.in-Ready.is at c.requires.0, c.requires.1)
+
+pub returns-in-Ready : goal.returns-in-Ready
+returns-in-Ready c = did_as c.read_word.ensures (word_ready _ _ c.in-Ready.is)

@@ -1,21 +1,22 @@
 -- take_setting: a refused setting leaves nothing held.
-use Rattle.std.proofs.Common.{rules}
-use Rattle.kinds.proofs.Holding.{clean, set_kept, none_kept}
-use Rattle.kinds.proofs.Turns.{did_as, told_did, set_taken, set_refused}
+use Rattle.std.proofs.Common.{ap}
+use Rattle.causes.specs.Number.{refused}
+use Rattle.kinds.proofs.Holding.{nothing_clean, set_clean}
+use Rattle.kinds.proofs.Turns.{told_did, some_number, set_taken, set_refused}
 use Rattle.kinds.proofs.settings.take_setting.Goals as goal
+use Rattle.kinds.proofs.settings.take_setting.Goals.{in-Ok, in-Err}
 
 pub told-requires : goal.told-requires
-told-requires c = (clean _ c.with_setting-stock.ensures (set_kept _), search rules)
-
-pub returns-then-refusal-eq0 : goal.returns-then-refusal-eq0
-returns-then-refusal-eq0 c =
-    did_as (told_did _ 1 0 c.with_setting-stock.ensures (set_kept _) c.told.ensures)
-    (set_taken _ _ c.read_setting-setting.ensures c.setting_refusal-refusal.ensures c.if-refusal-eq0.true)
-
-pub told-requires-2 : goal.told-requires-2
-told-requires-2 c = (clean _ c.without_setting-stock.ensures none_kept, search rules)
+told-requires c = elim c.match-refusal.branch [
+  | in-Ok w ↦ (rw w.stock-is (set_clean _), c.requires.1)
+  | in-Err w ↦ (rw w.stock-is nothing_clean, c.requires.1)
+]
 
 pub returns : goal.returns
 returns c =
-    did_as (told_did _ 1 _ c.without_setting-stock.ensures none_kept c.told-2.ensures)
-    (set_refused _ _ c.read_setting-setting.ensures c.setting_refusal-refusal.ensures c.if-refusal-eq0.false)
+    let is = c.read_setting-setting.ensures in
+    let e = c.setting_refusal-refusal.ensures in
+    elim c.match-refusal.branch [
+      | in-Ok w ↦ told_did _ 1 _ w.stock-is (set_taken _ _ is e (ap refused w.in-Ok.is)) c.told.ensures
+      | in-Err w ↦ told_did _ 1 _ w.stock-is (set_refused _ _ is e (some_number w.in-Err.is)) c.told.ensures
+    ]

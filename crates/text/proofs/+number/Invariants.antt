@@ -1,5 +1,0 @@
--- number: it follows the definition of the digits, from the last one back.
-use Rattle.text.proofs.+number.Given as goal
-
-abbrev pub decreases-number : goal.decreases-number
-decreases-number l = l.n
