@@ -37,7 +37,7 @@ class Kept(unittest.TestCase):
 
     def test_a_picture_that_is_not_is_told(self):
         text = (TOP / "crates.txt").read_text(encoding="utf-8")
-        others = text + "# one more\nanother: rules\n", text.replace("text: rules buffers", "text: rules"), text.replace("# -- ", "# ")
+        others = text + "# one more\nanother: rules\n", text.replace("parsing: rules text", "parsing: rules"), text.replace("# -- ", "# ")
         told = (1, "crates: docs/crates.svg is out of date; tools/crates draws it\n")
         with tempfile.TemporaryDirectory() as room:
             top = Path(room)

@@ -21,7 +21,7 @@ def named(cell):
 
 def declares(body, name):
     """Whether a line of the body declares the name. A comment, a `use` line and a use of the name do not."""
-    antt, rattle = r" *(unfoldable |abbrev )?pub ((record|data) )?", r'(pub )?(extern "C" )?(fn|struct|enum) '
+    antt, rattle = r" *(unfoldable |abbrev )?pub ((record|data) )?", r' *(pub )?(extern "C" )?(fn|struct|enum) '
     return re.search(rf"^({antt}|{rattle}){re.escape(name)}(?=[ (])", body, re.MULTILINE) is not None
 
 

@@ -3,128 +3,143 @@
 
 ghost use Rattle.std.specs.Prelude.{◌+◌, ◌≤◌};
 
-use test_cases::input::{Case, next, read_case, take, wide};
-use test_cases::text::{places, put, put_outcome, put_run, put_text};
+use causes::{Refusal, number_of};
+use roots::Tally;
+use setting::Setting;
+use test_cases::input::{next, read_setting, take, wide};
+use test_cases::text::{places, put, put_outcome, put_run};
 
 // What buffers hold before a call.
 const OLD: u16 = 9999;
 
-// The curve for the case's setting and the place behind it; one place where ℓ is too large for the buffers.
-fn put_curve(rt: &HostRuntime, c: Case, curve: &[u16]) {
-    let d = setting::derive(c.p, c.n, c.k, c.s, c.tau);
-    if 24 < d.l {
-        put_run(rt, curve, 1);
-    } else {
-        put_run(rt, curve, places(d.l + 1, d.w));
+// The calls that a case may name.
+#[derive(Clone, Copy, PartialEq, Eq)]
+enum Call {
+    Find,
+    Check,
+    List,
+    Read,
+}
+
+// The next case's call; none where the cases end.
+fn next_call(rt: &HostRuntime) -> Option<Call> {
+    match next(rt) {
+        0 => None,
+        1 => Some(Call::Find),
+        2 => Some(Call::Check),
+        3 => Some(Call::List),
+        _ => Some(Call::Read),
     }
+}
+
+// A case: the call with what it is asked.
+#[derive(Clone, Copy)]
+struct Case<'a> {
+    call: Call,
+    setting: Setting,
+    points: &'a [u16],
+    word: &'a [u16],
+    curve: &'a [u16],
+}
+
+// The curve for the setting and the place behind it; one place where it is refused or ℓ is too large for the buffers.
+fn put_curve(rt: &HostRuntime, setting: Setting, curve: &[u16]) {
+    let count = match setting::derive(setting) {
+        Ok(derived) if derived.l <= 24 => places(derived.l + 1, derived.w),
+        _ => 1,
+    };
+    put_run(rt, curve, count);
 }
 
 // The check: its answer as 1 or 0.
-fn check(rt: &HostRuntime, c: Case, points: &[u16], word: &[u16], curve: &[u16]) {
-    let o = reader::check(c.p, c.n, c.k, c.s, c.tau, points, word, curve);
-    put(rt, o.refusal as usize);
-    if o.yes {
-        put(rt, 1);
-    } else {
-        put(rt, 0);
-    }
+fn check(rt: &HostRuntime, case: Case<'_>) {
+    let outcome = reader::check(case.setting, case.points, case.word, case.curve);
+    let refusal = number_of(outcome);
+    let yes = u8::from(outcome.unwrap_or(false));
+    put(rt, &format_args!(" {refusal} {yes}"));
 }
 
-// The calls that write: 1 finds, 3 lists from the case's curve, 4 reads.
+// The calls that write. Finding lists nothing and tries nothing; the check is no such call.
 fn ask(
-    call: u16,
-    c: Case,
-    points: &[u16],
-    word: &[u16],
-    given: &[u16],
+    case: Case<'_>,
     output: &mut [u16],
     curve: &mut [u16],
     work: &mut [u16],
-) -> reader::Outcome {
-    if call == 1 {
-        return reader::find(c.p, c.n, c.k, c.s, c.tau, points, word, curve, work);
+) -> Result<Tally, Refusal> {
+    let (setting, points, word) = (case.setting, case.points, case.word);
+    match case.call {
+        Call::Find => {
+            reader::find(setting, points, word, curve, work)?;
+            Ok(Tally::default())
+        }
+        Call::Check => Ok(Tally::default()),
+        Call::List => reader::list(setting, points, word, case.curve, output, work),
+        Call::Read => reader::read(setting, points, word, output, curve, work),
     }
-    if call == 3 {
-        return reader::list(c.p, c.n, c.k, c.s, c.tau, points, word, given, output, work);
-    }
-    reader::read(c.p, c.n, c.k, c.s, c.tau, points, word, output, curve, work)
 }
 
 // The outcome of such a call, and then the curve that it found, or else the list with the place behind it.
-fn answer(rt: &HostRuntime, call: u16, c: Case, points: &[u16], word: &[u16], given: &[u16]) {
+fn answer(rt: &HostRuntime, case: Case<'_>) {
     let mut output = [OLD; 1537];
     let mut curve = [OLD; 6400];
     let mut work = [OLD; 60000];
-    let o = ask(
-        call,
-        c,
-        points,
-        word,
-        given,
-        &mut output,
-        &mut curve,
-        &mut work,
-    );
-    put_outcome(rt, o.refusal, o.found, o.tried, &work);
-    if call == 1 {
-        put_curve(rt, c, &curve);
+    let outcome = ask(case, &mut output, &mut curve, &mut work);
+    put_outcome(rt, outcome, &work);
+    if case.call == Call::Find {
+        put_curve(rt, case.setting, &curve);
     } else {
-        put_run(rt, &output, places(o.found, c.k));
+        let found = outcome.map_or(0, |tally| tally.found);
+        put_run(rt, &output, places(found, case.setting.k));
     }
 }
 
-// The call that the case names, of which 2 is the check.
-fn run(rt: &HostRuntime, call: u16, c: Case, points: &[u16], word: &[u16], curve: &[u16]) {
-    if call == 2 {
-        check(rt, c, points, word, curve);
+// The call that the case names.
+fn run(rt: &HostRuntime, case: Case<'_>) {
+    if case.call == Call::Check {
+        check(rt, case);
     } else {
-        answer(rt, call, c, points, word, curve);
+        answer(rt, case);
     }
-    put_text(rt, b"\n");
-}
-
-// Lends the call the n points, the n symbols of the word and the curve, which stand one behind the other.
-fn lend(rt: &HostRuntime, call: u16, c: Case, end: usize, all: &[u16; 6528])
-    requires { (c.n + c.n ≤ end) × (end ≤ 6528) }
-{
-    let n = c.n;
-    let both = n + n;
-    let lent: &[u16] = all;
-    run(rt, call, c, &lent[0..n], &lent[n..both], &lent[both..end]);
+    put(rt, &"\n");
 }
 
 // Runs a case, and says whether it fits the buffers: behind the numbers given the input has the points, the word and a curve so long.
-fn case(rt: &HostRuntime, call: u16, c: Case, long: usize) -> bool {
-    let n = c.n;
-    if 64 < n {
+fn read_case(rt: &HostRuntime, call: Call, setting: Setting, long: usize) -> bool {
+    let n = setting.n;
+    if n > 64 || long > 6400 {
         return false;
     }
-    if 6400 < long {
-        return false;
-    }
-    let end = n + n + long;
     let mut all = [0u16; 6528];
-    take(rt, &mut all[0..end]);
-    lend(rt, call, c, end, &all);
+    let lent = &mut all[..n + n + long];
+    take(rt, lent);
+    let (points, rest) = lent.split_at(n);
+    let (word, curve) = rest.split_at(n);
+    run(
+        rt,
+        Case {
+            call,
+            setting,
+            points,
+            word,
+            curve,
+        },
+    );
     true
 }
 
-// The next case, and whether there was one; call 0 ends.
+// The next case, and whether there was one that fits.
 fn turn(rt: &HostRuntime) -> bool {
-    let call = next(rt);
-    if call == 0 {
+    let Some(call) = next_call(rt) else {
         return false;
-    }
-    case(rt, call, read_case(rt), wide(rt))
+    };
+    read_case(rt, call, read_setting(rt), wide(rt))
 }
 
 // At most a thousand cases.
 fn main(rt: HostRuntime) {
-    let mut i: usize = 0;
-    while i < 1000 {
+    for _ in 0..1000 {
         if !turn(&rt) {
             return;
         }
-        i += 1;
     }
 }

@@ -1,7 +1,25 @@
 // The encode call: a line of p n k, the refusal, and the ten numbers of the buffer afterwards, which held nines.
 ghost use Rattle.std.specs.Prelude.{◌≤◌};
 
-use crate::text::{put, put_symbol};
+use crate::text::put;
+use causes::number_of;
+use std::fmt;
+
+// The numbers of the buffer after a call, parted by spaces.
+#[derive(Clone, Copy)]
+struct Numbers([u16; 10]);
+
+impl fmt::Display for Numbers {
+    fn fmt<W: fmt::Write>(&self, f: &mut fmt::Formatter<W>) -> fmt::Result {
+        for (i, number) in self.0.iter().enumerate() {
+            if i > 0 {
+                f.write_str(" ")?;
+            }
+            write!(f, "{number}")?;
+        }
+        Ok(())
+    }
+}
 
 // Encodes the first `symbols` symbols of the message at the first `points` points, with the first `room` numbers of the buffer lent.
 fn line(rt: &HostRuntime, p: usize, n: usize, k: usize, points: usize, symbols: usize, room: usize)
@@ -10,29 +28,17 @@ fn line(rt: &HostRuntime, p: usize, n: usize, k: usize, points: usize, symbols: 
     let all = [0u16, 1, 2, 3, 4, 5, 6, 6];
     let message = [3u16, 2, 7];
     let mut buffer = [9u16; 10];
-    let refusal = reader::encode(
+    let outcome = reader::encode(
         p,
         n,
         k,
-        &all[0..points],
-        &message[0..symbols],
-        &mut buffer[0..room],
+        &all[..points],
+        &message[..symbols],
+        &mut buffer[..room],
     );
-    put(rt, p, b' ');
-    put(rt, n, b' ');
-    put(rt, k, b' ');
-    put_symbol(rt, refusal, b' ');
-    show(rt, &buffer);
-}
-
-// The numbers of the buffer, and the end of the line.
-fn show(rt: &HostRuntime, buffer: &[u16; 10]) {
-    let mut i: usize = 0;
-    while i < 9 {
-        put_symbol(rt, buffer[i], b' ');
-        i += 1;
-    }
-    put_symbol(rt, buffer[9], b'\n');
+    let refusal = number_of(outcome);
+    let left = Numbers(buffer);
+    put(rt, &format_args!("{p} {n} {k} {refusal} {left}\n"));
 }
 
 // Every case of the call: p, n, k, how many points, how many symbols, how much room.

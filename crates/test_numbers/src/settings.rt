@@ -1,109 +1,119 @@
 // The setting call: a line of p n k s τ, the refusal, W ℓ C U R.
 use crate::text::put;
+use setting::Setting;
 
 // The largest number of 64 bits.
-const LAST: usize = 18446744073709551615;
+const LAST: usize = usize::MAX;
 
-// The call for one case.
-fn line(rt: &HostRuntime, p: usize, n: usize, k: usize, s: usize, tau: usize) {
-    put(rt, p, b' ');
-    put(rt, n, b' ');
-    put(rt, k, b' ');
-    put(rt, s, b' ');
-    put(rt, tau, b' ');
-    let d = setting::derive(p, n, k, s, tau);
-    put(rt, d.refusal as usize, b' ');
-    put(rt, d.w, b' ');
-    put(rt, d.l, b' ');
-    put(rt, d.c, b' ');
-    put(rt, d.u, b' ');
-    put(rt, d.r, b'\n');
+// The call for one case, p, n, k, s, τ.
+fn line(rt: &HostRuntime, [p, n, k, s, tau]: [usize; 5]) {
+    let setting = Setting { p, n, k, s, tau };
+    match setting::derive(setting) {
+        Ok(d) => put(
+            rt,
+            &format_args!(
+                "{p} {n} {k} {s} {tau} 0 {} {} {} {} {}\n",
+                d.w, d.l, d.c, d.u, d.r
+            ),
+        ),
+        Err(refusal) => put(
+            rt,
+            &format_args!("{p} {n} {k} {s} {tau} {} 0 0 0 0 0\n", u16::from(refusal)),
+        ),
+    }
 }
 
 // The document's own: p, n, k, s, τ.
-fn named(rt: &HostRuntime) {
+const NAMED: [[usize; 5]; 14] = [
     // the modulus: 929 is taken, 928 and 937 are refused
-    line(rt, 929, 7, 2, 1, 3);
-    line(rt, 928, 7, 2, 1, 3);
-    line(rt, 937, 7, 2, 1, 3);
+    [929, 7, 2, 1, 3],
+    [928, 7, 2, 1, 3],
+    [937, 7, 2, 1, 3],
     // Seven at each s and τ of the document
-    line(rt, 7, 7, 2, 1, 3);
-    line(rt, 7, 7, 2, 1, 2);
-    line(rt, 7, 7, 2, 1, 4);
-    line(rt, 7, 7, 2, 2, 4);
-    line(rt, 7, 7, 2, 3, 4);
+    [7, 7, 2, 1, 3],
+    [7, 7, 2, 1, 2],
+    [7, 7, 2, 1, 4],
+    [7, 7, 2, 2, 4],
+    [7, 7, 2, 3, 4],
     // the largest τ that is taken, and the next
-    line(rt, 929, 32, 8, 1, 14);
-    line(rt, 929, 32, 8, 1, 15);
-    line(rt, 929, 32, 8, 2, 15);
-    line(rt, 929, 32, 8, 2, 16);
-    line(rt, 929, 32, 8, 4, 16);
-    line(rt, 929, 32, 8, 4, 17);
-}
+    [929, 32, 8, 1, 14],
+    [929, 32, 8, 1, 15],
+    [929, 32, 8, 2, 15],
+    [929, 32, 8, 2, 16],
+    [929, 32, 8, 4, 16],
+    [929, 32, 8, 4, 17],
+];
 
 // Large and small settings.
-fn sizes(rt: &HostRuntime) {
+const SIZES: [[usize; 5]; 10] = [
     // ℓ above 24, and both refusals at once
-    line(rt, 929, 64, 2, 1, 38);
-    line(rt, 929, 64, 2, 1, 39);
-    line(rt, 929, 64, 2, 1, 53);
-    line(rt, 929, 64, 2, 1, 54);
-    line(rt, 929, 64, 2, 4, 56);
+    [929, 64, 2, 1, 38],
+    [929, 64, 2, 1, 39],
+    [929, 64, 2, 1, 53],
+    [929, 64, 2, 1, 54],
+    [929, 64, 2, 4, 56],
     // more work than the program has, and the most that any setting needs
-    line(rt, 929, 64, 32, 4, 16);
-    line(rt, 929, 62, 11, 4, 0);
+    [929, 64, 32, 4, 16],
+    [929, 62, 11, 4, 0],
     // the smallest setting, the largest code, and a code longer than its field
-    line(rt, 2, 2, 2, 1, 0);
-    line(rt, 929, 64, 64, 4, 0);
-    line(rt, 2, 64, 2, 1, 39);
-}
+    [2, 2, 2, 1, 0],
+    [929, 64, 64, 4, 0],
+    [2, 64, 2, 1, 39],
+];
 
 // Moduli at the edges.
-fn moduli(rt: &HostRuntime) {
-    line(rt, 0, 7, 2, 1, 3);
-    line(rt, 1, 7, 2, 1, 3);
-    line(rt, 3, 7, 2, 1, 3);
-    line(rt, 4, 7, 2, 1, 3);
-    line(rt, 9, 7, 2, 1, 3);
-    line(rt, 841, 7, 2, 1, 3);
-    line(rt, 65543, 7, 2, 1, 3);
-    line(rt, 4294967303, 7, 2, 1, 3);
-    line(rt, 18446744073709551557, 7, 2, 1, 3);
-    line(rt, LAST, 7, 2, 1, 3);
-}
+const MODULI: [[usize; 5]; 10] = [
+    [0, 7, 2, 1, 3],
+    [1, 7, 2, 1, 3],
+    [3, 7, 2, 1, 3],
+    [4, 7, 2, 1, 3],
+    [9, 7, 2, 1, 3],
+    [841, 7, 2, 1, 3],
+    [65543, 7, 2, 1, 3],
+    [4294967303, 7, 2, 1, 3],
+    [18446744073709551557, 7, 2, 1, 3],
+    [LAST, 7, 2, 1, 3],
+];
 
 // Each parameter just outside its range.
-fn outside(rt: &HostRuntime) {
-    line(rt, 7, 1, 1, 1, 0);
-    line(rt, 7, 65, 2, 1, 40);
-    line(rt, 7, 0, 0, 0, 0);
-    line(rt, 7, 7, 1, 1, 3);
-    line(rt, 7, 7, 8, 1, 0);
-    line(rt, 7, 7, 2, 0, 3);
-    line(rt, 7, 7, 2, 5, 3);
-    line(rt, 7, 7, 2, 1, 7);
-}
+const OUTSIDE: [[usize; 5]; 8] = [
+    [7, 1, 1, 1, 0],
+    [7, 65, 2, 1, 40],
+    [7, 0, 0, 0, 0],
+    [7, 7, 1, 1, 3],
+    [7, 7, 8, 1, 0],
+    [7, 7, 2, 0, 3],
+    [7, 7, 2, 5, 3],
+    [7, 7, 2, 1, 7],
+];
 
 // Each far outside, and more than one.
-fn far_outside(rt: &HostRuntime) {
-    line(rt, 7, 4294967303, 2, 1, 3);
-    line(rt, 7, 7, 4294967298, 1, 3);
-    line(rt, 7, 7, 2, 4294967297, 3);
-    line(rt, 7, 7, 2, 1, 4294967299);
-    line(rt, 7, LAST, 2, 1, 3);
-    line(rt, 7, 7, LAST, 1, 3);
-    line(rt, 7, 7, 2, LAST, 3);
-    line(rt, 7, 7, 2, 1, LAST);
+const FAR_OUTSIDE: [[usize; 5]; 10] = [
+    [7, 4294967303, 2, 1, 3],
+    [7, 7, 4294967298, 1, 3],
+    [7, 7, 2, 4294967297, 3],
+    [7, 7, 2, 1, 4294967299],
+    [7, LAST, 2, 1, 3],
+    [7, 7, LAST, 1, 3],
+    [7, 7, 2, LAST, 3],
+    [7, 7, 2, 1, LAST],
     // both 1 and 2 apply, and all at once
-    line(rt, 928, 1, 2, 1, 0);
-    line(rt, LAST, LAST, LAST, LAST, LAST);
+    [928, 1, 2, 1, 0],
+    [LAST, LAST, LAST, LAST, LAST],
+];
+
+// The call for each case, one after the other.
+fn lines(rt: &HostRuntime, cases: &[[usize; 5]]) {
+    for &case in cases {
+        line(rt, case);
+    }
 }
 
 // Every case of the call.
 pub fn run(rt: &HostRuntime) {
-    named(rt);
-    sizes(rt);
-    moduli(rt);
-    outside(rt);
-    far_outside(rt);
+    lines(rt, &NAMED);
+    lines(rt, &SIZES);
+    lines(rt, &MODULI);
+    lines(rt, &OUTSIDE);
+    lines(rt, &FAR_OUTSIDE);
 }

@@ -1,9 +1,0 @@
--- put_run: safe, and it ends.
-use Prim.Native.Nat.{◌≤◌, ◌-◌}
-use Rattle.test_cases.proofs.text.put_run.Given as goal
-
-abbrev pub invariant-loop-i : goal.invariant-loop-i
-invariant-loop-i l = l.i ≤ l.n
-
-abbrev pub decreases-loop-i : goal.decreases-loop-i
-decreases-loop-i l = l.n - l.i
