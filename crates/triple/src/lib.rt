@@ -9,10 +9,10 @@ ghost use Rattle.condition.specs.Kept.{Row};
 ghost use Rattle.triple.specs.Grown.{triple, Grown};
 
 use condition::Basis;
-use weights::{row, weigh_all};
+use weights::{TABLE, row, weigh_all};
 
 // The conditions of the orders below n in x: xs has the weights for x of each order, y those for y of one.
-fn along(basis: &mut Basis<'_>, alpha: u16, n: usize, xs: &[u16; 1024], y: &[u16])
+fn along(basis: &mut Basis<'_>, alpha: u16, n: usize, xs: &[u16; TABLE], y: &[u16])
     requires { (n ≤ 4) × (length y.now ≡ basis.old.shape.l + 1) }
     ensures same { basis.new.shape ≡ basis.old.shape }
     ensures lent { basis.new.work.ghost_name ≡ basis.old.work.ghost_name }
@@ -28,7 +28,7 @@ fn along(basis: &mut Basis<'_>, alpha: u16, n: usize, xs: &[u16; 1024], y: &[u16
 }
 
 // The conditions of a triple, of which xs and ys have the weights.
-fn by_weights(basis: &mut Basis<'_>, alpha: u16, m: usize, xs: &[u16; 1024], ys: &[u16; 1024])
+fn by_weights(basis: &mut Basis<'_>, alpha: u16, m: usize, xs: &[u16; TABLE], ys: &[u16; TABLE])
     requires { m ≤ 4 }
     ensures same { basis.new.shape ≡ basis.old.shape }
     ensures lent { basis.new.work.ghost_name ≡ basis.old.work.ghost_name }
@@ -52,8 +52,8 @@ pub fn meet(basis: &mut Basis<'_>, alpha: u16, symbol: u16, m: usize)
         (λ g. conditions_at (triple basis.old.shape.field.q g alpha symbol m)) basis.old.leads basis.new.leads basis.old.work.now basis.new.work.now }
 {
     let shape = basis.shape;
-    let mut xs = [0; 1024];
-    let mut ys = [0; 1024];
+    let mut xs = [0; TABLE];
+    let mut ys = [0; TABLE];
     weigh_all(shape.field, alpha, m, shape.w, &mut xs);
     weigh_all(shape.field, symbol, m, shape.l + 1, &mut ys);
     by_weights(basis, alpha, m, &xs, &ys);
