@@ -12,6 +12,7 @@ ghost use Rattle.triple.specs.Grown.{Grown};
 ghost use Rattle.finder.specs.Found.{Found};
 
 use condition::Basis;
+use runs::copy;
 use triple::meet;
 use weights::{ROWS, Shape, Triples};
 
@@ -37,5 +38,5 @@ pub fn find(shape: Shape, triples: Triples<'_>, curve: &mut [u16], work: &mut [u
     let mut basis = Basis::new(shape, work);
     meet_all(&mut basis, triples);
     let j = basis.pivot(&[1; ROWS]).unwrap();
-    curve.copy_from_slice(basis.curve(j).numbers);
+    copy(basis.curve(j).numbers, curve);
 }

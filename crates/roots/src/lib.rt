@@ -5,7 +5,7 @@ ghost use Rattle.std.specs.Prelude.{◌≡◌, ◌+◌, ◌*◌, ◌^◌, ◌<�
 ghost use Rattle.followers.specs.Followers.{Written};
 ghost use Rattle.roots.specs.Ready.{found_at, listed, SearchReady};
 
-use runs::all_zero;
+use runs::{all_zero, copy};
 
 mod sizes;
 
@@ -50,7 +50,7 @@ pub fn settle(
         return counted;
     }
     let at = tally.found * sizes.k;
-    roots[at..at + sizes.k].copy_from_slice(&begun[..sizes.k]);
+    copy(&begun[..sizes.k], &mut roots[at..at + sizes.k]);
     Tally {
         found: tally.found + 1,
         ..counted

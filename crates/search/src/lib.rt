@@ -6,6 +6,7 @@ ghost use Rattle.search.specs.Search.{Asked, CurveSearched, RootsLeft, spare, no
 use beginnings::visit;
 use lengthening::strip;
 use roots::{Sizes, Tally};
+use runs::copy;
 
 // Every root of the curve in the spare slot, in order, behind those that the tally has counted before; the empty beginning has the curve stripped.
 fn run(sizes: Sizes, work: &mut [u16], roots: &mut [u16], tally: Tally) -> Tally
@@ -42,6 +43,6 @@ pub fn search(sizes: Sizes, curve: &[u16], work: &mut [u16], roots: &mut [u16]) 
     requires { Asked sizes.rows.field.q sizes.k sizes.rows.w sizes.rows.l curve.now work.old roots.old none }
     ensures { RootsLeft sizes.rows.field.q sizes.k sizes.rows.w sizes.rows.l curve.now work.old roots.old work.new roots.new result }
 {
-    work[..curve.len()].copy_from_slice(curve);
+    copy(curve, &mut work[..curve.len()]);
     count(sizes, work, roots)
 }

@@ -32,6 +32,6 @@ pub returns : goal.returns
 returns c =
     let m = c.meet_all.ensures in
     let b = c.new-basis.ensures in
-    rw (c.copy_from_slice.ensures.after, rw (m.same, b.same) at c.curve.ensures.numbers)
+    rw (c.copy.ensures, rw (m.same, b.same) at c.curve.ensures.numbers)
     (found c.args.shape.shaped _ c.requires.2 (state c.args.shape c.args.triples b.started (rw (b.same, b.leads) at m.grown))
     (rw (m.same, b.same, c.unwrap-j.ensures) at c.pivot.ensures) (rw (m.same, b.same) at c.meet_all.new.basis.room))

@@ -20,8 +20,8 @@ returns-then-not-all_zero c =
       written_to [] _ (written_none _ _) (sym (ap (listed (take x.sizes.k x.begun.now)) f ∙ listed_none (take x.sizes.k x.begun.now))),
     )
 
-pub slice_bounds-copy_from_slice-end : goal.slice_bounds-copy_from_slice-end
-slice_bounds-copy_from_slice-end c =
+pub slice_bounds-copy-end-2 : goal.slice_bounds-copy-end-2
+slice_bounds-copy-end-2 c =
     let x = c.args in
     let p = c.requires in
     omega (arith, room_one x.tally.found x.sizes.k _ _ (found_one p c.all_zero.ensures (ap not c.if-not-all_zero.false)) p.room)
@@ -34,6 +34,6 @@ returns c =
       omega (arith, ap length f),
       ap (λ (tally : Tally). tally.tried) c.tried_one-counted.ensures,
       written_to (take x.sizes.k x.begun.now) _
-          (written_part _ _ _ (room_one x.tally.found x.sizes.k _ _ f p.room) (length-take-le x.sizes.k x.begun.now p.beginning) c.copy_from_slice.ensures.after (omega arith))
+          (written_part _ _ _ (room_one x.tally.found x.sizes.k _ _ f p.room) (length-take-le x.sizes.k x.begun.now p.beginning) c.copy.ensures (omega arith))
           (sym (ap (listed (take x.sizes.k x.begun.now)) f ∙ listed_one (take x.sizes.k x.begun.now))),
     )

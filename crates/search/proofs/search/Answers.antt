@@ -4,5 +4,5 @@ use Rattle.search.proofs.search.Goals as goal
 
 pub returns : goal.returns
 returns c =
-    let copied = copied_spare _ c.requires c.copy_from_slice.ensures.after in
+    let copied = copied_spare _ c.requires c.copy.ensures in
     roots_front c.requires copied.0 (rw copied.1 at c.count.ensures)
