@@ -25,6 +25,7 @@ impl<'a> Basis<'a> {
         requires { (shape.l + 1) * slot shape.w shape.l ≤ length work.old }
         ensures same { result.shape ≡ shape }
         ensures lent { result.work.ghost_name ≡ work.entry.ghost_name }
+        ensures long { length result.work.now ≡ length work.old }
         ensures leads { result.leads ≡ replicate 25 0 }
         ensures started { Started shape.w shape.l result.work.now }
     {
@@ -89,6 +90,7 @@ impl<'a> Basis<'a> {
         requires { (length x.now ≡ self.old.shape.w) × (length y.now ≡ self.old.shape.l + 1) }
         ensures same { self.new.shape ≡ self.old.shape }
         ensures lent { self.new.work.ghost_name ≡ self.old.work.ghost_name }
+        ensures long { length self.new.work.now ≡ length self.old.work.now }
         ensures met { Met self.old.shape.field.q self.old.shape.k self.old.shape.w self.old.shape.l alpha x.now y.now
             self.old.leads self.new.leads self.old.work.now self.new.work.now }
     {

@@ -20,6 +20,7 @@ use weights::{ROWS, Shape, Triples};
 fn meet_all(basis: &mut Basis<'_>, triples: Triples<'_>)
     ensures same { basis.new.shape ≡ basis.old.shape }
     ensures lent { basis.new.work.ghost_name ≡ basis.old.work.ghost_name }
+    ensures long { length basis.new.work.now ≡ length basis.old.work.now }
     ensures grown { Grown basis.old.shape.field.q basis.old.shape.k basis.old.shape.w basis.old.shape.l
         (λ g. conditions (map (move (elt basis.old.shape.field.q g)) (tripled triples.entry.points.now triples.entry.word.now triples.entry.times.now)))
         basis.old.leads basis.new.leads basis.old.work.now basis.new.work.now }

@@ -16,6 +16,7 @@ fn along(basis: &mut Basis<'_>, alpha: u16, n: usize, xs: &[u16; TABLE], y: &[u1
     requires { (n ≤ 4) × (length y.now ≡ basis.old.shape.l + 1) }
     ensures same { basis.new.shape ≡ basis.old.shape }
     ensures lent { basis.new.work.ghost_name ≡ basis.old.work.ghost_name }
+    ensures long { length basis.new.work.now ≡ length basis.old.work.now }
     ensures grown { (r b m : ℕ) → Weights basis.old.shape.field.q alpha n basis.old.shape.w xs.now
         → Row basis.old.shape.field.q r b (basis.old.shape.l + 1) y.now
         → Grown basis.old.shape.field.q basis.old.shape.k basis.old.shape.w basis.old.shape.l
@@ -32,6 +33,7 @@ fn by_weights(basis: &mut Basis<'_>, alpha: u16, m: usize, xs: &[u16; TABLE], ys
     requires { m ≤ 4 }
     ensures same { basis.new.shape ≡ basis.old.shape }
     ensures lent { basis.new.work.ghost_name ≡ basis.old.work.ghost_name }
+    ensures long { length basis.new.work.now ≡ length basis.old.work.now }
     ensures grown { (r : ℕ) → Weights basis.old.shape.field.q alpha m basis.old.shape.w xs.now
         → Weights basis.old.shape.field.q r m (basis.old.shape.l + 1) ys.now
         → Grown basis.old.shape.field.q basis.old.shape.k basis.old.shape.w basis.old.shape.l
@@ -48,6 +50,7 @@ pub fn meet(basis: &mut Basis<'_>, alpha: u16, symbol: u16, m: usize)
     requires { m ≤ 4 }
     ensures same { basis.new.shape ≡ basis.old.shape }
     ensures lent { basis.new.work.ghost_name ≡ basis.old.work.ghost_name }
+    ensures long { length basis.new.work.now ≡ length basis.old.work.now }
     ensures grown { Grown basis.old.shape.field.q basis.old.shape.k basis.old.shape.w basis.old.shape.l
         (λ g. conditions_at (triple basis.old.shape.field.q g alpha symbol m)) basis.old.leads basis.new.leads basis.old.work.now basis.new.work.now }
 {

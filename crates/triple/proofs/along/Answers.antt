@@ -5,7 +5,7 @@ use native.Mathlib.Omega.{arith}
 use Rattle.triple.proofs.along.Goals as goal
 
 pub loop-a-init : goal.loop-a-init
-loop-a-init c = (refl, refl, λ r b m X Y. along_none _ _ _ _ _ r m b _ _)
+loop-a-init c = (refl, refl, refl, λ r b m X Y. along_none _ _ _ _ _ r m b _ _)
 
 pub loop-a-preserved : goal.loop-a-preserved
 loop-a-preserved c =
@@ -13,7 +13,8 @@ loop-a-preserved c =
     let d = c.condition in (
       d.ensures.same ∙ o.invariant.0,
       d.ensures.lent ∙ o.invariant.1,
-      λ r b m X Y. along_more _ _ _ _ _ r m b o.a (o.invariant.2 r b m X Y) (rw o.invariant.0 at d.ensures.met)
+      d.ensures.long ∙ o.invariant.2,
+      λ r b m X Y. along_more _ _ _ _ _ r m b o.a (o.invariant.3 r b m X Y) (rw o.invariant.0 at d.ensures.met)
           (row_part o.a c.row.ensures.0 X (omega arith) (omega (arith, c.requires.0)) c.args.basis.now.shape.shaped.narrow) Y,
     )
 
@@ -21,4 +22,4 @@ pub returns : goal.returns
 returns c =
     let o = c.loop-a in
     let z : o.a ≡ c.args.n = omega arith in
-    record { same = o.invariant.0; lent = o.invariant.1; grown = λ r b m X Y. rw z at (o.invariant.2 r b m X Y) }
+    record { same = o.invariant.0; lent = o.invariant.1; long = o.invariant.2; grown = λ r b m X Y. rw z at (o.invariant.3 r b m X Y) }
