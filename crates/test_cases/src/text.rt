@@ -1,13 +1,26 @@
 // Text on standard output, numbers with a space before each.
 use causes::{Refusal, number_of};
 use roots::Tally;
-use std::fmt::Display;
+use std::fmt::{self, Display, Write};
 
-// What is given, as text; where it cannot be written, these words tell it.
-pub fn write<T: Display>(rt: &HostRuntime, words: &[u8], shown: &T) {
-    if let Ok(text) = format!(in rt.alloc(); "{shown}") {
-        let _ = streams::put(rt, text.as_bytes(), words);
+// Standard output as a place for text, with the words that tell of a failed write.
+#[derive(Drop)]
+struct Output<'a> {
+    rt: &'a HostRuntime,
+    words: &'a [u8],
+}
+
+impl Write for Output<'_> {
+    // Each piece is written by itself, so no memory is asked for; what cannot be written is told, and the next piece is tried.
+    fn write_str(&mut self, piece: &str) -> fmt::Result {
+        let _ = streams::put(self.rt, piece.as_bytes(), self.words);
+        Ok(())
     }
+}
+
+// What is given, as text, piece by piece; where one cannot be written, these words tell it.
+pub fn write<T: Display>(rt: &HostRuntime, words: &[u8], shown: &T) {
+    let _ = Output { rt, words }.write(shown);
 }
 
 // The same for the program test_calls.

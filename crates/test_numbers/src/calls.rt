@@ -1,6 +1,6 @@
 // The field calls: a line of p a b, then the refusal and the symbol of a + b, a − b, a·b and of the inverse of a.
 use crate::text::put;
-use causes::Refusal;
+use causes::{Refusal, number_of};
 use std::fmt;
 
 // The refusal number and the symbol that a field call answers.
@@ -9,10 +9,9 @@ struct Answered(Result<u16, Refusal>);
 
 impl fmt::Display for Answered {
     fn fmt<W: fmt::Write>(&self, f: &mut fmt::Formatter<W>) -> fmt::Result {
-        match self.0 {
-            Ok(symbol) => write!(f, "0 {symbol}"),
-            Err(refusal) => write!(f, "{} 0", u16::from(refusal)),
-        }
+        let refusal = number_of(self.0);
+        let symbol = self.0.unwrap_or(0);
+        write!(f, "{refusal} {symbol}")
     }
 }
 

@@ -1,26 +1,20 @@
 // The setting call: a line of p n k s τ, the refusal, W ℓ C U R.
 use crate::text::put;
-use setting::Setting;
+use causes::number_of;
+use setting::{Derived, Setting};
 
 // The largest number of 64 bits.
 const LAST: usize = usize::MAX;
 
 // The call for one case, p, n, k, s, τ.
 fn line(rt: &HostRuntime, [p, n, k, s, tau]: [usize; 5]) {
-    let setting = Setting { p, n, k, s, tau };
-    match setting::derive(setting) {
-        Ok(d) => put(
-            rt,
-            &format_args!(
-                "{p} {n} {k} {s} {tau} 0 {} {} {} {} {}\n",
-                d.w, d.l, d.c, d.u, d.r
-            ),
-        ),
-        Err(refusal) => put(
-            rt,
-            &format_args!("{p} {n} {k} {s} {tau} {} 0 0 0 0 0\n", u16::from(refusal)),
-        ),
-    }
+    let outcome = setting::derive(Setting { p, n, k, s, tau });
+    let refusal = number_of(outcome);
+    let Derived { w, l, c, u, r } = outcome.unwrap_or_default();
+    put(
+        rt,
+        &format_args!("{p} {n} {k} {s} {tau} {refusal} {w} {l} {c} {u} {r}\n"),
+    );
 }
 
 // The document's own: p, n, k, s, τ.
