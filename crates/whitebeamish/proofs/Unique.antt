@@ -3,8 +3,8 @@ use mathlib.Core.Path.{◌≡◌, sym, ap, ◌∙◌}
 use mathlib.Core.List.{List, [], ◌∷◌}
 use Prim.Native.Nat.{ℕ}
 use Rattle.rules.specs.Setting.{Setting}
-use Rattle.rules.specs.Outcome.{Finding, Listing, Reading, Finds, used}
-use Rattle.whitebeamish.specs.Numbers.{finding}
+use Rattle.rules.specs.Outcome.{Encoded, Finding, Listing, Reading, Finds, used, encode_call}
+use Rattle.whitebeamish.specs.Numbers.{encoded, finding}
 use Rattle.reader.proofs.Unique.{find_unique, read_unique}
 use Rattle.answer.specs.Told.{told}
 use Rattle.whitebeamish.specs.Told.{ListTold, ReadTold}
@@ -13,6 +13,12 @@ use Rattle.whitebeamish.specs.Told.{ListTold, ReadTold}
 pub told_unique : {r r' refusal : ℕ} (results answer t t' : List ℕ) → (r ≡ refusal) × (t ≡ told results answer) → (r' ≡ refusal) × (t' ≡ told results answer)
     → (r ≡ r') × (t ≡ t')
 told_unique results answer t t' h h' = (h.0 ∙ sym h'.0, h.1 ∙ sym h'.1)
+
+-- writing a patch: e, e' are what the output then holds
+pub encode_told_unique : (p n k : ℕ) (points message output : List ℕ) (r r' : ℕ) (e e' : List ℕ)
+    → encoded r e ≡ encode_call p n k points message output → encoded r' e' ≡ encode_call p n k points message output → (r ≡ r') × (e ≡ e')
+encode_told_unique p n k points message output r r' e e' h h' =
+    (ap (λ (o : Encoded). o.refusal) (h ∙ sym h'), ap (λ (o : Encoded). o.output) (h ∙ sym h'))
 
 -- finding: equal given the same curve
 pub find_told_unique : (S : Setting) (points word curve work : List ℕ) (r r' : ℕ) (c c' w w' : List ℕ)
