@@ -71,14 +71,16 @@ impl Setting {
         self.n * self.s * (self.s + 1) / 2
     }
 
-    // "U = the sum of W − t·(k−1) for t from 0 to ℓ"
+    // "U = the sum of W − t·(k−1) for t from 0 to ℓ". off is t·(k−1): a product for each row would take twice as long.
     fn coefficients(self, w: usize, l: usize) -> usize
         requires { (w ≤ 256) × (2 ≤ self.k) × (self.k ≤ 64) × (l < w) × (l * (self.k - 1) < w) }
         ensures { result ≡ sum (λ t. w - t * (self.k - 1)) (below (l + 1)) }
     {
         let mut u = 0;
-        for t in 0..=l {
-            u += w - t * (self.k - 1);
+        let mut off = 0;
+        for _ in 0..l + 1 {
+            u += w - off;
+            off += self.k - 1;
         }
         u
     }
