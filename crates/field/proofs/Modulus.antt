@@ -50,7 +50,7 @@ module _ (p k : ℕ) where
       (lt_or_ge k d)
 
 -- a divisor that is tried is below p
-double : {d : ℕ} → 2 ≤ d → 2 * d ≤ d * d
+pub double : {d : ℕ} → 2 ≤ d → 2 * d ≤ d * d
 double {d} h = mul-le-mul_right {m = 2} {n = d} d h
 
 -- below 31, whose square is above 929, all is tried that has to be

@@ -57,10 +57,10 @@ kept_same s t a (suc n) h =
     ap₂ (λ (b : Bool) (xs : List ℕ). cond b (a ∷ xs) xs) first
     (kept_same s t (suc a) n (λ j l. let e : a + suc j ≡ suc a + j = omega arith in ap s (sym e) ∙ h (suc j) (omega arith) ∙ ap t e))
 
-appended_none : (a : ℕ) (d : List ℕ) → Appended [] a d d a
+pub appended_none : (a : ℕ) (d : List ℕ) → Appended [] a d d a
 appended_none a d = record { count = omega arith; list = changed_none _ a d }
 
-appended_to : {xs ys : List ℕ} {a r : ℕ} {d e : List ℕ} → Appended xs a d e r → xs ≡ ys → Appended ys a d e r
+pub appended_to : {xs ys : List ℕ} {a r : ℕ} {d e : List ℕ} → Appended xs a d e r → xs ≡ ys → Appended ys a d e r
 appended_to h e = rw e at h
 
 appended_append : {xs ys : List ℕ} {a b r : ℕ} {d e e' : List ℕ} → Appended xs a d e b → Appended ys b e e' r → Appended (xs ++ ys) a d e' r

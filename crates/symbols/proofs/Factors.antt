@@ -43,7 +43,7 @@ module _ (q r0 r1 s0 s1 : ℕ) where
       ∙ add-mul-mod_self_left (r0 % r1) q r1
 
   module _ (h : Chain q r0 r1 s0 s1) where
-    quotient : r0 / r1 ≤ q
+    pub quotient : r0 / r1 ≤ q
     quotient = omega (arith, div-le_self r0 r1, h.first)
 
     -- what the call is handed
