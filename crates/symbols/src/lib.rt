@@ -31,7 +31,7 @@ pub struct Field {
 }
 
 impl Field {
-    // The field of the numbers below q. This is the one division by q.
+    // The field of the numbers below q. The multiplier costs the one division that it takes.
     pub fn new(q: u16) -> Self
         requires { T (modulus q) }
         ensures { result.q ≡ q }

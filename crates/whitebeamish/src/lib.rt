@@ -134,7 +134,7 @@ pub extern "C" fn whitebeamish_check(
     number_of(outcome)
 }
 
-// Finding a curve: reader::find, whose list length and beginnings are 0 always.
+// Finding a curve: reader::find, which tells no list length and no beginnings; they are 0 always.
 #[unsafe(no_mangle)]
 pub extern "C" fn whitebeamish_find(
     p: usize,
