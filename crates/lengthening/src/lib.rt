@@ -41,41 +41,39 @@ fn substitute(rows: Rows, g: u16, work: &mut [u16])
 }
 
 // Whether column i of the first slot is zero.
-fn is_clear(rows: Rows, i: usize, work: &[u16]) -> bool
-    requires { (i < rows.w) × ((rows.l + 1) * rows.w ≤ length work.now) }
-    ensures { Tells rows.w rows.l i work.now result }
+fn is_clear(w: usize, l: usize, i: usize, work: &[u16]) -> bool
+    requires { (i < w) × (l ≤ 24) × ((l + 1) * w ≤ length work.now) }
+    ensures { Tells w l i work.now result }
 {
-    (0..rows.l + 1).all(|t| work[t * rows.w + i] == 0)
+    (0..l + 1).all(|t| work[t * w + i] == 0)
 }
 
 // The largest power of x that divides the curve in the first slot, or w where it is zero.
-fn common_power(rows: Rows, work: &[u16]) -> usize
-    requires { (rows.l + 1) * rows.w ≤ length work.now }
-    ensures { CommonPower rows.w rows.l work.now result }
+fn common_power(w: usize, l: usize, work: &[u16]) -> usize
+    requires { (l ≤ 24) × ((l + 1) * w ≤ length work.now) }
+    ensures { CommonPower w l work.now result }
 {
-    (0..rows.w)
-        .find(|&v| !is_clear(rows, v, work))
-        .unwrap_or(rows.w)
+    (0..w).find(|&v| !is_clear(w, l, v, work)).unwrap_or(w)
 }
 
 // The curve of the first slot over x^v, into the slot from b on.
-fn divide(rows: Rows, v: usize, b: usize, work: &mut [u16])
-    requires { (v ≤ rows.w) × ((rows.l + 1) * rows.w ≤ b) × (b + (rows.l + 1) * rows.w ≤ length work.old) }
-    ensures { Moved rows.w (rows.l + 1) v b work.old work.new }
+fn divide(w: usize, l: usize, v: usize, b: usize, work: &mut [u16])
+    requires { (v ≤ w) × (l ≤ 24) × ((l + 1) * w ≤ b) × (b + (l + 1) * w ≤ length work.old) }
+    ensures { Moved w (l + 1) v b work.old work.new }
 {
-    for t in 0..rows.l + 1 {
-        let row = t * rows.w;
-        strip_run(work, row, b + row, v, rows.w);
+    for t in 0..l + 1 {
+        let row = t * w;
+        strip_run(work, row, b + row, v, w);
     }
 }
 
 // The curve of the first slot stripped, into the slot from b on.
-pub fn strip(rows: Rows, b: usize, work: &mut [u16])
-    requires { ((rows.l + 1) * rows.w ≤ b) × (b + (rows.l + 1) * rows.w ≤ length work.old) }
-    ensures { SlotStripped rows.w rows.l b work.old work.new }
+pub fn strip(w: usize, l: usize, b: usize, work: &mut [u16])
+    requires { (l ≤ 24) × ((l + 1) * w ≤ b) × (b + (l + 1) * w ≤ length work.old) }
+    ensures { SlotStripped w l b work.old work.new }
 {
-    let v = common_power(rows, work);
-    divide(rows, v, b, work);
+    let v = common_power(w, l, work);
+    divide(w, l, v, b, work);
 }
 
 // Q(x, x·y + g) stripped, for the curve Q in the slot at a, into the slot after it.
@@ -88,5 +86,5 @@ pub fn lengthen(rows: Rows, g: u16, a: usize, work: &mut [u16])
     let size = rows.size();
     work.copy_within(a..a + size, 0);
     substitute(rows, g, work);
-    strip(rows, a + size, work);
+    strip(rows.w, rows.l, a + size, work);
 }

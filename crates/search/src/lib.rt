@@ -14,7 +14,7 @@ fn run(sizes: Sizes, work: &mut [u16], roots: &mut [u16], tally: Tally) -> Tally
     ensures { CurveSearched sizes.rows.field.q sizes.k sizes.rows.w sizes.rows.l (spare sizes.rows.w sizes.rows.l work.old) work.old roots.old tally work.new roots.new result }
 {
     let size = sizes.rows.size();
-    strip(sizes.rows, size, work);
+    strip(sizes.rows.w, sizes.rows.l, size, work);
     let mut begun = [0u16; 64];
     visit(sizes, sizes.k, size, work, &mut begun, roots, tally)
 }

@@ -8,6 +8,6 @@ use Rattle.lengthening.proofs.common_power.Goals as goal
 pub returns : goal.returns
 returns c =
     let x = c.args in
-    rw c.unwrap_or.ensures (common x.rows.w x.rows.l x.work.now _
-    (first_from_Range _ _ _ _ (λ v. ¬ ColumnClear x.rows.w x.rows.l v x.work.now) (λ v. ColumnClear x.rows.w x.rows.l v x.work.now) c.find.ensures.ran
+    rw c.unwrap_or.ensures (common x.w x.l x.work.now _
+    (first_from_Range _ _ _ _ (λ v. ¬ ColumnClear x.w x.l v x.work.now) (λ v. ColumnClear x.w x.l v x.work.now) c.find.ensures.ran
     (λ v q k. grind (arith, tests)) (λ v q k. grind (arith, tests))))

@@ -8,5 +8,5 @@ use Rattle.lengthening.proofs.divide.Goals as goal
 pub loop-t-preserved : goal.loop-t-preserved
 loop-t-preserved c =
     let l = c.loop-t in
-    let f : l.t < c.args.rows.l + 1 = omega arith in
-    moved_more l.t (omega (arith, row_fits c.args.rows.w f)) c.requires.0 l.invariant c.strip_run.ensures
+    let f : l.t < c.args.l + 1 = omega arith in
+    moved_more l.t (omega (arith, row_fits c.args.w f)) c.requires.0 l.invariant c.strip_run.ensures

@@ -3,4 +3,4 @@ use Rattle.lengthening.specs.Lengthened.{Moved}
 use Rattle.lengthening.proofs.divide.Given as goal
 
 abbrev pub invariant-loop-t : goal.invariant-loop-t
-invariant-loop-t l = Moved l.rows.w l.t l.v l.b l.initial.work l.work
+invariant-loop-t l = Moved l.w l.t l.v l.b l.initial.work l.work

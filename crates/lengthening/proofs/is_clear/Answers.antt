@@ -9,10 +9,10 @@ use Rattle.lengthening.proofs.is_clear.Goals as goal
 pub all-requires-clause-callable : goal.all-requires-clause-callable
 all-requires-clause-callable c =
     serves_from_Range (λ t q k. search rules)
-    (λ t low high. let f : t * c.args.rows.w + c.args.rows.w ≤ (c.args.rows.l + 1) * c.args.rows.w = row_fits c.args.rows.w high in grind arith)
+    (λ t low high. let f : t * c.args.w + c.args.w ≤ (c.args.l + 1) * c.args.w = row_fits c.args.w high in grind arith)
 
 pub returns : goal.returns
 returns c =
     let x = c.args in
-    tells x.rows.w x.rows.l x.i x.work.now _ (cases_from_all _ _ _ (Zero x.rows.w x.rows.l x.i x.work.now) (λ t. ¬ Zero x.rows.w x.rows.l x.i x.work.now t) c.all.ensures.ran
-    (YieldsList-from_range 0 (x.rows.l + 1) (x.rows.l + 1) refl (omega arith)) (λ t q k. search (rules, tests)) (λ t q k. search (rules, tests)))
+    tells x.w x.l x.i x.work.now _ (cases_from_all _ _ _ (Zero x.w x.l x.i x.work.now) (λ t. ¬ Zero x.w x.l x.i x.work.now t) c.all.ensures.ran
+    (YieldsList-from_range 0 (x.l + 1) (x.l + 1) refl (omega arith)) (λ t q k. search (rules, tests)) (λ t q k. search (rules, tests)))
