@@ -9,6 +9,23 @@ ghost use Rattle.condition.specs.Kept.{Fit, First, Quiet, Met};
 use slots::{raise, start, sweep};
 use weights::{Curve, ROWS, Shape, value};
 
+// Of the curves that are alive and whose value is not zero, the one of the least leading term.
+pub fn pivot(shape: Shape, leads: &[usize], values: &[u16]) -> Option<usize>
+    requires { (shape.l < length leads.now) × (shape.l < length values.now) × Fit shape.k shape.w shape.l leads.now }
+    ensures { MatchOption result (Quiet shape.k shape.w shape.l leads.now values.now) (First shape.k shape.w shape.l leads.now values.now) }
+{
+    let mut best = None;
+    let mut least = shape.w;
+    for j in 0..shape.l + 1 {
+        let weight = leads[j] + j * (shape.k - 1);
+        if values[j] != 0 && weight < least {
+            best = Some(j);
+            least = weight;
+        }
+    }
+    best
+}
+
 // The finder's curves, of one shape: the column of each one's leading term, and their numbers in the slots of a lent buffer.
 #[derive(Drop)]
 pub struct Basis<'a> {
@@ -66,22 +83,13 @@ impl<'a> Basis<'a> {
         values
     }
 
-    // Of the curves that are alive and whose value is not zero, the one of the least leading term.
+    // Of its curves that are alive and whose value is not zero, the one of the least leading term.
     pub fn pivot(&self, values: &[u16]) -> Option<usize>
         requires { self.now.shape.l < length values.now }
         ensures { MatchOption result (Quiet self.now.shape.k self.now.shape.w self.now.shape.l self.now.leads values.now)
             (First self.now.shape.k self.now.shape.w self.now.shape.l self.now.leads values.now) }
     {
-        let mut best = None;
-        let mut least = self.shape.w;
-        for j in 0..self.shape.l + 1 {
-            let weight = self.leads[j] + j * (self.shape.k - 1);
-            if values[j] != 0 && weight < least {
-                best = Some(j);
-                least = weight;
-            }
-        }
-        best
+        pivot(self.shape, &self.leads, values)
     }
 
     // One condition, whose weights are x and y: every other curve that misses it loses the multiple of the pivot that makes it meet it,
