@@ -8,6 +8,7 @@ ghost use Rattle.rules.specs.Search.{rows};
 ghost use Rattle.text.specs.Lines.{Writes};
 ghost use Rattle.bodies.specs.Setting.{setting_of};
 ghost use Rattle.bodies.specs.Heard.{Heard, found_of};
+ghost use Rattle.bodies.specs.Lent.{Lent};
 ghost use Rattle.causes.specs.Number.{refused};
 
 use causes::Refusal;
@@ -57,10 +58,10 @@ pub fn points_refusal(setting: Setting, points: &[u16]) -> Result<(), Refusal>
 
 // The room that is lent to every word: the list of candidates is left in the first.
 #[derive(Drop)]
-pub struct Room {
-    pub list: [u16; LIST],
-    pub curve: [u16; CURVE],
-    pub work: [u16; WORK],
+pub struct Room<'a> {
+    pub list: &'a mut [u16; LIST],
+    pub curve: &'a mut [u16; CURVE],
+    pub work: &'a mut [u16; WORK],
 }
 
 // Reads the word with a setting and points that were accepted: how many candidates there are. What the room held before does not count.
@@ -68,19 +69,16 @@ pub fn read_held(
     setting: Setting,
     points: &[u16],
     word: &[u16],
-    room: &mut Room,
+    room: &mut Room<'_>,
 ) -> Result<usize, Refusal>
     requires { (setting_record_refusal (setting_of setting) ≡ 0) × (points_refusal (setting_of setting) points.now ≡ 0) }
-    ensures { Heard (setting_of setting) points.now word.now room.new.list (refused result) (found_of result) }
+    ensures heard { Heard (setting_of setting) points.now word.now room.new.list.now (refused result) (found_of result) }
+    ensures lent { Lent room.old room.new }
 {
-    let tally = reader::read(
-        setting,
-        points,
-        word,
-        &mut room.list,
-        &mut room.curve,
-        &mut room.work,
-    )?;
+    let list = &mut *room.list;
+    let curve = &mut *room.curve;
+    let work = &mut *room.work;
+    let tally = reader::read(setting, points, word, list, curve, work)?;
     Ok(tally.found)
 }
 

@@ -23,7 +23,7 @@ fn take(
     rt: &HostRuntime,
     held: Held,
     bytes: &[u8],
-    room: &mut Room,
+    room: &mut Room<'_>,
     out: &mut [u8; 16384],
 ) -> Result<Left, Failed>
     requires { Sound held.stock × (held.turns + 1 < 2 ^ 64) × (length bytes.now ≤ 132) × (length bytes.now ≤ size bytes.now) }
@@ -45,7 +45,7 @@ fn take(
 fn turn(
     rt: &HostRuntime,
     held: Held,
-    room: &mut Room,
+    room: &mut Room<'_>,
     out: &mut [u8; 16384],
 ) -> Result<Left, Failed>
     requires { Sound held.stock × (held.turns + 1 < 2 ^ 64) }
@@ -58,7 +58,7 @@ fn turn(
 
 // Takes turn after turn until one stops, and answers what it left: the end of the input or refusal 10. A call that fails stops it too.
 // Where no number is left for a further record, which cannot come about, it stops as where a call fails.
-fn read_all(rt: &HostRuntime, room: &mut Room, out: &mut [u8; 16384]) -> Result<Left, Failed>
+fn read_all(rt: &HostRuntime, room: &mut Room<'_>, out: &mut [u8; 16384]) -> Result<Left, Failed>
     ensures { IfOk result (λ left. Completed (holding 0 nothing) left) }
 {
     let mut held = records::start();
@@ -76,9 +76,9 @@ fn read_all(rt: &HostRuntime, room: &mut Room, out: &mut [u8; 16384]) -> Result<
 // What failed was told, and the end is no other.
 fn main(rt: HostRuntime) {
     let mut room = Room {
-        list: [0; bodies::LIST],
-        curve: [0; bodies::CURVE],
-        work: [0; bodies::WORK],
+        list: &mut [0; bodies::LIST],
+        curve: &mut [0; bodies::CURVE],
+        work: &mut [0; bodies::WORK],
     };
     let mut out = [0; 16384];
     let _ = read_all(&rt, &mut room, &mut out);

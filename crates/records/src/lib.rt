@@ -3,6 +3,7 @@
 
 ghost use Rattle.std.specs.Prelude.{◌≡◌, ◌+◌, ◌-◌, ◌^◌, ◌<◌, ◌≤◌, eqb, length};
 ghost use Rattle.rules.specs.Patch.{nothing, turn};
+ghost use Rattle.bodies.specs.Lent.{Lent};
 ghost use Rattle.kinds.specs.Holding.{held_of, Sound};
 ghost use Rattle.kinds.specs.Did.{Did};
 ghost use Rattle.records.specs.Stepped.{holding, Stepped};
@@ -49,9 +50,10 @@ pub fn is_full(held: Held) -> bool
 }
 
 // The record with this number, of which the input has these bytes.
-fn by_kind(stock: Stock, number: u64, bytes: &[u8], room: &mut Room, out: &mut [u8]) -> Turned
+fn by_kind(stock: Stock, number: u64, bytes: &[u8], room: &mut Room<'_>, out: &mut [u8]) -> Turned
     requires { Sound stock × (length bytes.now ≤ 132) × (16384 ≤ length out.old) }
-    ensures { Did (turn number (held_of stock) bytes.now) out.old out.new result }
+    ensures did { Did (turn number (held_of stock) bytes.now) out.old out.new result }
+    ensures lent { Lent room.old room.new }
 {
     if bytes.is_empty() {
         return Turned {
@@ -74,9 +76,10 @@ fn by_kind(stock: Stock, number: u64, bytes: &[u8], room: &mut Room, out: &mut [
 
 // The next record, of which the input has these bytes: its lines are written at the front of out.
 // A word is read in the room: what that held before does not count, and nothing is said of what it holds then.
-pub fn step(held: Held, bytes: &[u8], room: &mut Room, out: &mut [u8]) -> Done
+pub fn step(held: Held, bytes: &[u8], room: &mut Room<'_>, out: &mut [u8]) -> Done
     requires { Sound held.stock × (held.turns + 1 < 2 ^ 64) × (length bytes.now ≤ 132) × (16384 ≤ length out.old) }
-    ensures { Stepped held bytes.now out.old out.new result }
+    ensures stepped { Stepped held bytes.now out.old out.new result }
+    ensures lent { Lent room.old room.new }
 {
     let turns = held.turns + 1;
     let turned = by_kind(held.stock, turns, bytes, room, out);

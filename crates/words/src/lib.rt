@@ -4,6 +4,7 @@
 ghost use Rattle.std.specs.Prelude.{◌≤◌, length, take};
 ghost use Rattle.rules.specs.Patch.{body, word_turn, word_comes};
 ghost use Rattle.bodies.specs.Setting.{setting_of};
+ghost use Rattle.bodies.specs.Lent.{Lent};
 ghost use Rattle.kinds.specs.declared.Stock.TheVariants.{Ready};
 ghost use Rattle.kinds.specs.Holding.{held_of, Sound};
 ghost use Rattle.kinds.specs.Did.{Did};
@@ -21,11 +22,12 @@ fn read_word(
     points: [u16; 64],
     number: u64,
     given: Record<'_>,
-    room: &mut Room,
+    room: &mut Room<'_>,
     out: &mut [u8],
 ) -> Turned
     requires { Sound (Ready setting points) × (16384 ≤ length out.old) }
-    ensures { Did (word_turn number (setting_of setting) (take setting.n points) (body given.entry.bytes.now)) out.old out.new result }
+    ensures did { Did (word_turn number (setting_of setting) (take setting.n points) (body given.entry.bytes.now)) out.old out.new result }
+    ensures lent { Lent room.old room.new }
 {
     let stock = Stock::Ready(setting, points);
     let mut word = [0; 64];
@@ -35,7 +37,7 @@ fn read_word(
             let fields = [WORD, 0, found as u16];
             let mut lines = Lines::new(out);
             lines.numbered_line(number, &fields);
-            bodies::candidates(&room.list, setting.k, found, &mut lines);
+            bodies::candidates(room.list, setting.k, found, &mut lines);
             Turned {
                 stock,
                 wrote: lines.len,
@@ -51,11 +53,12 @@ pub fn take_word(
     stock: Stock,
     number: u64,
     given: Record<'_>,
-    room: &mut Room,
+    room: &mut Room<'_>,
     out: &mut [u8],
 ) -> Turned
     requires { Sound stock × (16384 ≤ length out.old) }
-    ensures { Did (word_comes number (held_of stock) (body given.entry.bytes.now)) out.old out.new result }
+    ensures did { Did (word_comes number (held_of stock) (body given.entry.bytes.now)) out.old out.new result }
+    ensures lent { Lent room.old room.new }
 {
     match stock {
         Stock::Nothing | Stock::Set(_) => {

@@ -7,7 +7,7 @@ returns c =
     record {
       call = record { before = _; after = _; done = c.step-done.result };
       cut = c.requires.3;
-      stepped = c.step-done.ensures;
+      stepped = c.step-done.ensures.stepped;
       is_held = refl;
       is_more = refl;
     }

@@ -7,12 +7,12 @@ use Rattle.kinds.proofs.Turns.{did_as}
 use Rattle.records.proofs.Steps.{turn_end, turn_broken, turn_setting, turn_points, turn_word, turn_other}
 use Rattle.records.proofs.by_kind.Goals as goal
 
-pub returns-then-is_empty : goal.returns-then-is_empty
-returns-then-is_empty c =
+pub returns-then-is_empty-clause-did : goal.returns-then-is_empty-clause-did
+returns-then-is_empty-clause-did c =
     did_as (record { held = c.requires.0.clean; text = wrote_none _ _; more = refl; within = omega arith }) (turn_end _ _ _ (search rules))
 
-pub returns-then-is_broken : goal.returns-then-is_broken
-returns-then-is_broken c = did_as c.told.ensures (turn_broken _ _ _ (search rules) (sym c.is_broken.ensures ∙ c.if-is_broken.true))
+pub returns-then-is_broken-clause-did : goal.returns-then-is_broken-clause-did
+returns-then-is_broken-clause-did c = did_as c.told.ensures (turn_broken _ _ _ (search rules) (sym c.is_broken.ensures ∙ c.if-is_broken.true))
 
 pub invariant_of-given-clause-whole : goal.invariant_of-given-clause-whole
 invariant_of-given-clause-whole c =
@@ -26,21 +26,21 @@ take_setting-requires c =
     let f = whole_five c.args.bytes.now whole (sym c.kind.ensures ∙ c.in-1.is) in
     (omega arith, c.requires.2)
 
-pub returns-in-1 : goal.returns-in-1
-returns-in-1 c =
+pub returns-in-1-clause-did : goal.returns-in-1-clause-did
+returns-in-1-clause-did c =
     did_as c.take_setting.ensures
     (turn_setting _ _ _ (search rules) (sym c.is_broken.ensures ∙ c.if-is_broken.false) c.kind.ensures c.in-1.is)
 
-pub returns-in-2 : goal.returns-in-2
-returns-in-2 c =
+pub returns-in-2-clause-did : goal.returns-in-2-clause-did
+returns-in-2-clause-did c =
     did_as c.take_points.ensures
     (turn_points _ _ _ (search rules) (sym c.is_broken.ensures ∙ c.if-is_broken.false) c.kind.ensures c.in-2.is)
 
-pub returns-in-3 : goal.returns-in-3
-returns-in-3 c =
-    did_as c.take_word.ensures
+pub returns-in-3-clause-did : goal.returns-in-3-clause-did
+returns-in-3-clause-did c =
+    did_as c.take_word.ensures.did
     (turn_word _ _ _ (search rules) (sym c.is_broken.ensures ∙ c.if-is_broken.false) c.kind.ensures c.in-3.is)
 
-pub returns-in_default : goal.returns-in_default
-returns-in_default c = did_as c.told-in_default.ensures
+pub returns-in_default-clause-did : goal.returns-in_default-clause-did
+returns-in_default-clause-did c = did_as c.told-in_default.ensures
     (turn_other _ _ _ (search rules) (sym c.is_broken.ensures ∙ c.if-is_broken.false) c.kind.ensures (search rules) (search rules) (search rules))

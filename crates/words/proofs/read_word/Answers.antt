@@ -18,11 +18,11 @@ pub read_held-requires : goal.read_held-requires
 read_held-requires c = held_accepted c.args.setting c.args.points c.requires.0
 
 pub overflow_cast-fields : goal.overflow_cast-fields
-overflow_cast-fields c = let h = c.in-Ok.ensures in let few = (h.accepted refl).few in search rules
+overflow_cast-fields c = let h = c.in-Ok.ensures.heard in let few = (h.accepted refl).few in search rules
 
 pub candidates-requires : goal.candidates-requires
 candidates-requires c =
-    let h = c.in-Ok.ensures in
+    let h = c.in-Ok.ensures.heard in
     let l = h.accepted refl in
     let n = c.numbered_line.ensures in
     let o = c.new-lines.ensures in (
@@ -30,9 +30,9 @@ candidates-requires c =
       omega (arith, h.list_long, l.room, l.few, lines_room c.in-Ok.found c.args.setting.k, n.0, o.none, writes_room n.1, ap length o.out, c.requires.1),
     )
 
-pub returns-in-Ok : goal.returns-in-Ok
-returns-in-Ok c =
-    let h = heard_as c.in-Ok.ensures (body_front refl c.read_body-m.ensures) in
+pub returns-in-Ok-clause-did : goal.returns-in-Ok-clause-did
+returns-in-Ok-clause-did c =
+    let h = heard_as c.in-Ok.ensures.heard (body_front refl c.read_body-m.ensures) in
     let l = h.accepted refl in
     let n = c.numbered_line.ensures in
     let o = c.new-lines.ensures in
@@ -42,7 +42,7 @@ returns-in-Ok c =
     (omega (arith, h.list_long, l.room, l.few, lines_room c.in-Ok.found c.args.setting.k, n.0, o.none, p.0, c.requires.1)))
     (search rules)
 
-pub returns-in-Err : goal.returns-in-Err
-returns-in-Err c =
-    let h = heard_as c.in-Err.ensures (body_front refl c.read_body-m.ensures) in
+pub returns-in-Err-clause-did : goal.returns-in-Err-clause-did
+returns-in-Err-clause-did c =
+    let h = heard_as c.in-Err.ensures.heard (body_front refl c.read_body-m.ensures) in
     did_as c.told.ensures (word_refused _ _ _ h (never_zero c.in-Err.cause))

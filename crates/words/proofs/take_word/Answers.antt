@@ -3,11 +3,11 @@ use Rattle.kinds.proofs.Turns.{did_as}
 use Rattle.words.proofs.Answered.{word_missing, word_ready}
 use Rattle.words.proofs.take_word.Goals as goal
 
-pub returns-in-Nothing : goal.returns-in-Nothing
-returns-in-Nothing c = did_as c.told.ensures (word_missing _ _ c.in-Nothing.is)
+pub returns-in-Nothing-clause-did : goal.returns-in-Nothing-clause-did
+returns-in-Nothing-clause-did c = did_as c.told.ensures (word_missing _ _ c.in-Nothing.is)
 
 pub read_word-requires : goal.read_word-requires
 read_word-requires c = (rw c.in-Ready.is at c.requires.0, c.requires.1)
 
-pub returns-in-Ready : goal.returns-in-Ready
-returns-in-Ready c = did_as c.read_word.ensures (word_ready _ _ c.in-Ready.is)
+pub returns-in-Ready-clause-did : goal.returns-in-Ready-clause-did
+returns-in-Ready-clause-did c = did_as c.read_word.ensures.did (word_ready _ _ c.in-Ready.is)
