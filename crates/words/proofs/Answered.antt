@@ -4,6 +4,7 @@ use mathlib.Core.Bool.{true}
 use mathlib.Core.Logic.{◌⊎◌, inl, inr}
 use mathlib.Core.List.{List, [], ◌∷◌, ◌++◌}
 use Prim.Native.Nat.{ℕ, ◌≤◌}
+use native.Mathlib.Omega.{arith}
 use lib.ListN.{length, take}
 use borrow.Author.Tests.{eq-eqb, ne_eqb}
 use Rattle.rules.specs.Setting.{Setting as Rule}
@@ -16,6 +17,7 @@ use Rattle.text.proofs.Written.{writes_then, wrote_first, wrote_as}
 use Rattle.bodies.specs.Setting.{setting_of}
 use Rattle.bodies.specs.Heard.{Heard, messages_of}
 use Rattle.bodies.proofs.Refused.{points_given}
+use Rattle.bodies.proofs.Hearing.{known}
 use Rattle.bodies.proofs.Lines.{plus_lines}
 use Rattle.kinds.specs.declared.Stock.{Stock}
 use Rattle.kinds.specs.declared.Stock.TheVariants.{Nothing, Set, Ready}
@@ -56,6 +58,12 @@ held_accepted s points h = ready_accepted (setting_of s) (take s.n points) h.acc
 -- as many points are held as the setting has
 pub points_held : (s : Setting) (points : List ℕ) → Sound (Ready s points) → s.n ≡ length (take s.n points)
 points_held s points h = sym (points_given (setting_of s) (take s.n points) (held_accepted s points h).1).points_long
+
+-- a message has at most 64 symbols: there is room for one, whatever was found
+pub message_few : (s : Setting) (points : List ℕ) → Sound (Ready s points) → s.k ≤ 64
+message_few s points h =
+    let a = held_accepted s points h in
+    let code = (known (setting_of s) (take s.n points) a.0 a.1).setting.passed.ranged.code in omega (arith, code.k_most, code.n_most)
 
 -- by how much is held
 module _ (i : ℕ) (b : List ℕ) {h : Stock} where

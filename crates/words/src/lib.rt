@@ -49,6 +49,7 @@ fn read_word(
 }
 
 // 12 where no points are held, before the body is read.
+#[tactic(auto, using(crate::proofs::Answered::word_missing))]
 pub fn take_word(
     stock: Stock,
     number: u64,

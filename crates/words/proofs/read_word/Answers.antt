@@ -4,7 +4,7 @@ use Rattle.causes.proofs.Number.{never_zero}
 use Rattle.text.proofs.Written.{writes_room}
 use Rattle.kinds.proofs.Turns.{did_as, did_in, body_front}
 use Rattle.bodies.proofs.Lines.{lines_room}
-use Rattle.words.proofs.Answered.{heard_as, word_refused, word_heard, held_accepted, points_held}
+use Rattle.words.proofs.Answered.{heard_as, word_refused, word_heard, held_accepted, points_held, message_few}
 use Rattle.words.proofs.read_word.Goals as goal
 
 pub slice_bounds-points-end : goal.slice_bounds-points-end
@@ -25,9 +25,10 @@ candidates-requires c =
     let h = c.in-Ok.ensures.heard in
     let l = h.accepted refl in
     let n = c.numbered_line.ensures in
-    let o = c.new-lines.ensures in (
-      l.room,
-      omega (arith, h.list_long, l.room, l.few, lines_room c.in-Ok.found c.args.setting.k, n.0, o.none, writes_room n.1, ap length o.out, c.requires.1),
+    let o = c.new-lines.ensures in
+    let k = message_few c.args.setting c.args.points c.requires.0 in (
+      omega (arith, h.list_long, l.room, k),
+      omega (arith, h.list_long, l.room, l.few, k, lines_room c.in-Ok.found c.args.setting.k, n.0, o.none, writes_room n.1, ap length o.out, c.requires.1),
     )
 
 pub returns-in-Ok-clause-did : goal.returns-in-Ok-clause-did
@@ -37,9 +38,10 @@ returns-in-Ok-clause-did c =
     let n = c.numbered_line.ensures in
     let o = c.new-lines.ensures in
     let p = c.candidates.ensures in
+    let k = message_few c.args.setting c.args.points c.requires.0 in
     did_in
     (word_heard _ _ _ h refl o.out o.none n.1 p.1 c.requires.0
-    (omega (arith, h.list_long, l.room, l.few, lines_room c.in-Ok.found c.args.setting.k, n.0, o.none, p.0, c.requires.1)))
+    (omega (arith, h.list_long, l.room, l.few, k, lines_room c.in-Ok.found c.args.setting.k, n.0, o.none, p.0, c.requires.1)))
     (search rules)
 
 pub returns-in-Err-clause-did : goal.returns-in-Err-clause-did

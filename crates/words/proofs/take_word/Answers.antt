@@ -1,10 +1,7 @@
 -- take_word: 12 where no points are held, before the body is read.
 use Rattle.kinds.proofs.Turns.{did_as}
-use Rattle.words.proofs.Answered.{word_missing, word_ready}
+use Rattle.words.proofs.Answered.{word_ready}
 use Rattle.words.proofs.take_word.Goals as goal
-
-pub returns-in-Nothing-clause-did : goal.returns-in-Nothing-clause-did
-returns-in-Nothing-clause-did c = did_as c.told.ensures (word_missing _ _ c.in-Nothing.is)
 
 pub read_word-requires : goal.read_word-requires
 read_word-requires c = (rw c.in-Ready.is at c.requires.0, c.requires.1)
