@@ -62,7 +62,8 @@ pub fn is_broken(bytes: &[u8]) -> bool
     bytes.len() < 2 + usize::from(n) || (pair(bytes, 1) == SETTING && n != 12)
 }
 
-// A record that is not broken: its length and its kind are there, and a body of at most 64 numbers.
+// The bytes of a record, 4 to 132: its length and its kind are there, and a body of at most 64 numbers.
+// Whether it is broken the type does not say.
 #[derive(Clone, Copy)]
 pub struct Record<'a> {
     pub bytes: &'a [u8],
