@@ -18,27 +18,28 @@ struct Left {
     more: bool,
 }
 
-// A record of which the input has these bytes: taken, its lines written. The rest is room for it.
+// A record of which the input has these bytes: taken, and whether its lines could be written. The rest is room for it.
 fn take(
     rt: &HostRuntime,
     held: Held,
     bytes: &[u8],
     room: &mut Room<'_>,
     out: &mut [u8; 16384],
-) -> Result<Left, Failed>
+) -> (Left, Result<(), Failed>)
     requires { Sound held.stock × (held.turns + 1 < 2 ^ 64) × (length bytes.now ≤ 132) × (length bytes.now ≤ size bytes.now) }
-    ensures { IfOk result (λ left. Took held bytes.now left) }
+    ensures { Took held bytes.now result.0 }
 {
     let done = records::step(held, bytes, room, out);
-    streams::put(
+    let written = streams::put(
         rt,
         &out[..done.wrote],
         b"patch: cannot write to standard output",
-    )?;
-    Ok(Left {
+    );
+    let left = Left {
         held: done.held,
         more: done.more,
-    })
+    };
+    (left, written)
 }
 
 // One turn. A read that fails is no end of the input, so nothing is said of what came before it of the record.
@@ -53,7 +54,9 @@ fn turn(
 {
     let mut bytes = [0; 132];
     let count = input::read_record(rt, &mut bytes, b"patch: cannot read standard input")?;
-    take(rt, held, &bytes[..count], room, out)
+    let (left, written) = take(rt, held, &bytes[..count], room, out);
+    written?;
+    Ok(left)
 }
 
 // Takes turn after turn until one stops, and answers what it left: the end of the input or refusal 10. A call that fails stops it too.
