@@ -75,6 +75,7 @@ pub fn read_held(
     ensures heard { Heard (setting_of setting) points.now word.now room.new.list.now (refused result) (found_of result) }
     ensures lent { Lent room.old room.new }
 {
+    // Each is lent from the room by itself: the check follows a loan that has a name.
     let list = &mut *room.list;
     let curve = &mut *room.curve;
     let work = &mut *room.work;

@@ -68,11 +68,11 @@ module _ (i : ℕ) (s : Setting) {numbers e : List ℕ} {m : ℕ} (read : Bodied
   refusal_is = is ∙ ap (points_refusal (setting_of s)) (body_front refl read)
 
   module _ (z : r ≡ 0) where
-    as_held : with_array s e ≡ stock (ready (setting_of s) numbers)
+    pub as_held : with_array s e ≡ stock (ready (setting_of s) numbers)
     unfolding stock
     as_held = ap (with_array s) (body_array read)
 
-    held_is : held_of (with_array s e) ≡ ready (setting_of s) numbers
+    pub held_is : held_of (with_array s e) ≡ ready (setting_of s) numbers
     held_is = ap held_of as_held ∙ ready_kept (setting_of s) numbers (points_given (setting_of s) numbers (sym refusal_is ∙ z)).points_long
 
     pub ready_clean : Clean (with_array s e)

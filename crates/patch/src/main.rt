@@ -18,7 +18,7 @@ struct Left {
     more: bool,
 }
 
-// A record of which the input has these bytes: taken, and whether its lines could be written. The rest is room for it.
+// Takes the record of which the input has these bytes: what it left, and whether its lines could be written. The rest is room for it.
 fn take(
     rt: &HostRuntime,
     held: Held,

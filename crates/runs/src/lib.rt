@@ -30,7 +30,7 @@ pub fn eval(field: Field, f: &[u16], x: u16) -> u16
     f.iter().rfold(0, |sum, &c| field.mul_add(c, x, sum))
 }
 
-// dst holds what src holds. The library's copy_from_slice calls memmove where the compiler does not see that the two lie apart, which the archive for C does not need.
+// dst holds what src holds. The library's copy_from_slice calls memmove where the compiler does not see that the two lie apart, and the archive for C would then need it.
 pub fn copy(src: &[u16], dst: &mut [u16])
     requires { length src.now ≡ length dst.old }
     ensures { dst.new ≡ src.now }

@@ -31,7 +31,7 @@ pub struct Field {
 }
 
 impl Field {
-    // The field of the numbers below q. The multiplier costs the one division that it takes.
+    // The field of the numbers below q. Making the multiplier takes one division.
     pub fn new(q: u16) -> Self
         requires { T (modulus q) }
         ensures { result.q ≡ q }

@@ -59,7 +59,7 @@ held_accepted s points h = ready_accepted (setting_of s) (take s.n points) h.acc
 pub points_held : (s : Setting) (points : List ℕ) → Sound (Ready s points) → s.n ≡ length (take s.n points)
 points_held s points h = sym (points_given (setting_of s) (take s.n points) (held_accepted s points h).1).points_long
 
--- a message has at most 64 symbols: there is room for one, whatever was found
+-- a message has at most 64 symbols, so that there is room for one, whatever was found: a wrong count then fails at what is printed and not for want of room (edit message_from_before)
 pub message_few : (s : Setting) (points : List ℕ) → Sound (Ready s points) → s.k ≤ 64
 message_few s points h =
     let a = held_accepted s points h in

@@ -1,4 +1,4 @@
--- take_word: 12 where no points are held, before the body is read.
+-- take_word: where points are held, what read_word did; the check finds the 12 of the others by itself.
 use Rattle.kinds.proofs.Turns.{did_as}
 use Rattle.words.proofs.Answered.{word_ready}
 use Rattle.words.proofs.take_word.Goals as goal
