@@ -16,6 +16,10 @@ use parsing::Record;
 use setting::Setting;
 use text::Lines;
 
+mod room;
+
+pub use room::Room;
+
 // The program's room: the numbers of a list of candidates, of a curve, and of work.
 pub const LIST: usize = 1536;
 
@@ -54,14 +58,6 @@ pub fn points_refusal(setting: Setting, points: &[u16]) -> Result<(), Refusal>
     ensures { refused result ≡ points_refusal (setting_of setting) points.now }
 {
     refusals::of_points(setting.p, setting.n, points)
-}
-
-// The room that is lent to every word: the list of candidates is left in the first.
-#[derive(Drop)]
-pub struct Room<'a> {
-    pub list: &'a mut [u16; LIST],
-    pub curve: &'a mut [u16; CURVE],
-    pub work: &'a mut [u16; WORK],
 }
 
 // Reads the word with a setting and points that were accepted: how many candidates there are. What the room held before does not count.
